@@ -1,0 +1,4 @@
+pub mod Choice
+pub mod Memory
+pub mod Numbers
+pub mod Table

@@ -1,0 +1,47 @@
+// What every layer stands on: choosing by a test, parts of lent memory, and writes to it. Nothing here knows the format.
+ghost use mathlib.Core.Path.{_≡_};
+ghost use mathlib.Core.List.{[], _∷_};
+ghost use Prim.Native.Nat.{_≤_, _+_, _-_};
+ghost use lib.ListN.{length};
+ghost use Rattle.base.specs.Memory.{written, part};
+
+// One byte at a place.
+pub fn put_byte(buf: &mut [u8], at: usize, b: u8)
+    requires { ⌜ at + 1 ≤ length (now buf) ⌝ }
+    ensures { λ _. ⌜ now (buf .exit) ≡ written (now (buf .entry)) at (b ∷ []) ⌝ }
+{
+    buf[at] = b;
+}
+
+// One number at a place.
+pub fn put_number(table: &mut [u32], at: usize, n: u32)
+    requires { ⌜ at + 1 ≤ length (now table) ⌝ }
+    ensures { λ _. ⌜ now (table .exit) ≡ written (now (table .entry)) at (n ∷ []) ⌝ }
+{
+    table[at] = n;
+}
+
+// Five numbers at a place: an entry or a row.
+pub fn put_five(table: &mut [u32], at: usize, a: u32, b: u32, c: u32, d: u32, e: u32)
+    requires { ⌜ at + 5 ≤ length (now table) ⌝ }
+    ensures { λ _. ⌜ now (table .exit) ≡ written (now (table .entry)) at (a ∷ b ∷ c ∷ d ∷ e ∷ []) ⌝ }
+{
+    table[at] = a;
+    table[at + 1] = b;
+    table[at + 2] = c;
+    table[at + 3] = d;
+    table[at + 4] = e;
+}
+
+// A part of one buffer at a place of another.
+pub fn copy_at(src: &[u8], from: usize, to: usize, dst: &mut [u8], at: usize)
+    requires { ⌜ (from ≤ to) × ((to ≤ length (now src)) × (at + (to - from) ≤ length (now dst))) ⌝ }
+    ensures { λ _. ⌜ now (dst .exit) ≡ written (now (dst .entry)) at (part (now (src .entry)) from to) ⌝ }
+{
+    let n = to - from;
+    let mut j: usize = 0;
+    while j < n {
+        dst[at + j] = src[from + j];
+        j += 1;
+    }
+}
