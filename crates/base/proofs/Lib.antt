@@ -1,4 +1,6 @@
 pub mod Choice
+pub mod Every
+pub mod Lists
 pub mod Memory
 pub mod Numbers
 pub mod Table

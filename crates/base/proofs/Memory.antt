@@ -70,3 +70,22 @@ copy-step s d from to at j h k r l =
     ap (λ (v : ℕ). set (paste d at (part s from to) j) (at + j) v) (sym (getD-part s from to j l))
     ∙ paste-suc d at (part s from to) j 0 (omega arith) (omega (arith, length-part s from to h k))
     ∙ ap (λ (n : ℕ). paste d at (part s from to) n) (sym (add-one j))
+
+-- a copy leaves what stands below it
+pub below-paste : (d : List ℕ) (at : ℕ) (s : List ℕ) (j k : ℕ) → k < at → at ≤ length d → getD (paste d at s j) k 0 ≡ getD d k 0
+below-paste d at s j k h l =
+    let e : length (take at d) ≡ at = length-take-le at d l in
+    let m : k < length (take at d ++ take j s) = omega (arith, length-append (take at d) (take j s)) in
+    List·getD-append (take at d ++ take j s) (drop (at + j) d) 0 k m
+    ∙ List·getD-append (take at d) (take j s) 0 k (omega arith)
+    ∙ getD-take at d k 0 h
+
+-- a turn of the loop that copies inside one buffer
+pub within-step : (d b : List ℕ) (from to at j : ℕ) → from ≤ to → to ≤ at → at + (to - from) ≤ length d → j < to - from → b ≡ paste d at (part d from to) j
+    → set b (at + j) (getD b (from + j) 0) ≡ paste d at (part d from to) (j + 1)
+within-step d b from to at j h k r l e =
+    let v : getD b (from + j) 0 ≡ getD d (from + j) 0 =
+    ap (λ (x : List ℕ). getD x (from + j) 0) e ∙ below-paste d at (part d from to) j (from + j) (omega arith) (omega arith) in
+    ap (λ (n : ℕ). set b (at + j) n) v
+    ∙ ap (λ (x : List ℕ). set x (at + j) (getD d (from + j) 0)) e
+    ∙ copy-step d d from to at j h (omega arith) r l

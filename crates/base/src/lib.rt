@@ -45,3 +45,16 @@ pub fn copy_at(src: &[u8], from: usize, to: usize, dst: &mut [u8], at: usize)
         j += 1;
     }
 }
+
+// A part of a buffer at a later place of the same buffer.
+pub fn copy_within(buf: &mut [u8], from: usize, to: usize, at: usize)
+    requires { ⌜ (from ≤ to) × ((to ≤ at) × (at + (to - from) ≤ length (now buf))) ⌝ }
+    ensures { λ _. ⌜ now (buf .exit) ≡ written (now (buf .entry)) at (part (now (buf .entry)) from to) ⌝ }
+{
+    let n = to - from;
+    let mut j: usize = 0;
+    while j < n {
+        buf[at + j] = buf[from + j];
+        j += 1;
+    }
+}

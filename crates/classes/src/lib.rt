@@ -1,0 +1,50 @@
+// Digit or not, and allowed by SAM or not: a property of each of the 256 byte values, tabled.
+// A caller makes the table once and lends it, since a constant is built anew wherever it is read.
+ghost use mathlib.Core.Path.{_≡_};
+ghost use Prim.Native.Nat.{_≤_};
+ghost use lib.ListN.{length};
+ghost use Rattle.base.specs.Memory.{part};
+ghost use Rattle.classes.specs.Classes.{classOf, classTable, allAllowed};
+
+mod entries;
+
+use crate::entries::CLASSES;
+
+// The table, to be lent.
+pub fn table() -> [u8; 256]
+    ensures { λ r. ⌜ r ≡ classTable ⌝ }
+{
+    CLASSES
+}
+
+// A byte's class by the table.
+pub fn class_in(table: &[u8; 256], b: u8) -> u8
+    requires { ⌜ now table ≡ classTable ⌝ }
+    ensures { λ r. ⌜ r ≡ classOf b ⌝ }
+{
+    let i = b as usize;
+    table[i]
+}
+
+// A byte's class where only one is asked for.
+pub fn class(b: u8) -> u8
+    ensures { λ r. ⌜ r ≡ classOf b ⌝ }
+{
+    let t = table();
+    class_in(&t, b)
+}
+
+// Every byte of a part is one that SAM allows.
+pub fn allowed(table: &[u8; 256], bytes: &[u8], from: usize, to: usize) -> bool
+    requires { ⌜ (now table ≡ classTable) × ((from ≤ to) × (to ≤ length (now bytes))) ⌝ }
+    ensures { λ r. ⌜ r ≡ allAllowed (part (now (bytes .entry)) from to) ⌝ }
+{
+    let mut i = from;
+    while i < to {
+        if class_in(table, bytes[i]) == 0 {
+            return false;
+        }
+        i += 1;
+    }
+    true
+}
