@@ -1,0 +1,178 @@
+// The block: a lent run of bytes, a directory of spans with a cursor each, and a count of names.
+// Its limits, where its spans and cursors are, the judgement of both, and opening.
+ghost use mathlib.Core.Path.{_≡_};
+ghost use Prim.Native.Nat.{_≤_, _<_, _+_, _*_};
+ghost use lib.ListN.{length};
+ghost use Rattle.block.specs.Block.{spanOf, startOf, endOf, cursorOf, soundFrom, sound, allInside, allAtEnd, starts, opening, openOf};
+use spans::Cursor;
+use spans::Position;
+
+pub mod stream;
+
+pub struct Block {
+    pub count: u32,
+}
+
+// The count of the block, k names kept, text bytes used and rows used.
+pub struct State {
+    pub count: u32,
+    pub names: u32,
+    pub text: u32,
+    pub rows: u32,
+}
+
+// A refusal's number, and the number of the name that goes with it if there is one.
+pub enum Refusal {
+    Plain(u32),
+    At(u32, u32),
+}
+
+pub enum Opened {
+    Fresh(State),
+    Refused(Refusal),
+}
+
+pub fn span_of(p: Position, stream: u32) -> usize
+    requires { ⌜ (p .0 ≤ 128) × (stream ≤ 9) ⌝ }
+    ensures { λ r. ⌜ r ≡ spanOf (p .0) stream ⌝ }
+{
+    (Block::STREAMS * p.0 + stream) as usize
+}
+
+pub fn start_of(dir: &[u32], span: usize) -> Cursor
+    requires { ⌜ (length (now dir) ≡ 2580) × (span < 1290) ⌝ }
+    ensures { λ r. ⌜ r .0 ≡ startOf (now (dir .entry)) span ⌝ }
+{
+    Cursor(dir[2 * span])
+}
+
+pub fn end_of(dir: &[u32], span: usize) -> Cursor
+    requires { ⌜ (length (now dir) ≡ 2580) × (span < 1290) ⌝ }
+    ensures { λ r. ⌜ r .0 ≡ endOf (now (dir .entry)) span ⌝ }
+{
+    Cursor(dir[2 * span + 1])
+}
+
+pub fn cursor_of(cursors: &[u32], span: usize) -> Cursor
+    requires { ⌜ (length (now cursors) ≡ 1290) × (span < 1290) ⌝ }
+    ensures { λ r. ⌜ r .0 ≡ cursorOf (now (cursors .entry)) span ⌝ }
+{
+    Cursor(cursors[span])
+}
+
+// No way out inside the loop, here and below, so that several spans are judged at a time.
+fn spans_sound(n: u32, dir: &[u32]) -> bool
+    requires { ⌜ length (now dir) ≡ 2580 ⌝ }
+    ensures { λ r. ⌜ r ≡ soundFrom n (now (dir .entry)) 0 1290 ⌝ }
+{
+    let mut ok = true;
+    let mut i: usize = 0;
+    while i < Block::SPANS {
+        let start = dir[2 * i];
+        let end = dir[2 * i + 1];
+        ok = ok & (start <= end) & (end <= n);
+        i += 1;
+    }
+    ok
+}
+
+// Refusal 1 is given where this is false.
+pub fn sound(bytes: &[u8], dir: &[u32], cursors: &[u32]) -> bool
+    ensures { λ r. ⌜ r ≡ sound (length (now (bytes .entry))) (now (dir .entry)) (now (cursors .entry)) ⌝ }
+{
+    if dir.len() != Block::DIRECTORY {
+        return false;
+    }
+    if cursors.len() != Block::SPANS {
+        return false;
+    }
+    // An end has 32 bits, and numbers of one width are judged faster.
+    let n = bytes.len();
+    if n < 4294967295 {
+        spans_sound(n as u32, dir)
+    } else {
+        spans_sound(4294967295, dir)
+    }
+}
+
+// Refusal 13 is given where this is false.
+pub fn inside(dir: &[u32], cursors: &[u32]) -> bool
+    requires { ⌜ (length (now dir) ≡ 2580) × (length (now cursors) ≡ 1290) ⌝ }
+    ensures { λ r. ⌜ r ≡ allInside (now (dir .entry)) (now (cursors .entry)) ⌝ }
+{
+    let mut ok = true;
+    let mut i: usize = 0;
+    while i < Block::SPANS {
+        let start = dir[2 * i];
+        let end = dir[2 * i + 1];
+        let cursor = cursors[i];
+        ok = ok & (start <= cursor) & (cursor <= end);
+        i += 1;
+    }
+    ok
+}
+
+// With all names read, "done" where this is true and refusal 10 where not.
+pub fn at_end(dir: &[u32], cursors: &[u32]) -> bool
+    requires { ⌜ (length (now dir) ≡ 2580) × (length (now cursors) ≡ 1290) ⌝ }
+    ensures { λ r. ⌜ r ≡ allAtEnd (now (dir .entry)) (now (cursors .entry)) ⌝ }
+{
+    let mut ok = true;
+    let mut i: usize = 0;
+    while i < Block::SPANS {
+        let end = dir[2 * i + 1];
+        let cursor = cursors[i];
+        ok = ok & (cursor == end);
+        i += 1;
+    }
+    ok
+}
+
+fn set_starts(dir: &[u32], cursors: &mut [u32])
+    requires { ⌜ (length (now dir) ≡ 2580) × (length (now cursors) ≡ 1290) ⌝ }
+    ensures { λ _. ⌜ now (cursors .exit) ≡ starts (now (dir .entry)) ⌝ }
+{
+    let mut i: usize = 0;
+    while i < Block::SPANS {
+        cursors[i] = dir[2 * i];
+        i += 1;
+    }
+}
+
+// The limits belong to the block.
+impl Block {
+    pub const NAMES: u32 = 65536;
+    // Tokens a name, counting END: positions 1 to 128.
+    pub const TOKENS: u32 = 128;
+
+    pub const BYTES: u32 = 254;
+    // Digits to a number written.
+    pub const DIGITS: u32 = 9;
+
+    pub const POSITIONS: u32 = 129;
+
+    pub const STREAMS: u32 = 10;
+
+    pub const SPANS: usize = 1290;
+
+    pub const DIRECTORY: usize = 2580;
+
+    pub fn open(self, bytes: &[u8], dir: &[u32], cursors: &mut [u32]) -> Opened
+        ensures { λ r. ⌜ opening r (now (cursors .exit)) ≡ openOf (length (now (bytes .entry))) (now (dir .entry)) (self .count) (now (cursors .entry)) ⌝ }
+    {
+        let count = self.count;
+        if !sound(bytes, dir, cursors) {
+            return Opened::Refused(Refusal::Plain(1));
+        }
+        if Block::NAMES < count {
+            return Opened::Refused(Refusal::Plain(12));
+        }
+        set_starts(dir, cursors);
+        Opened::Fresh(State {
+            count: count,
+            names: 0,
+            text: 0,
+            rows: 0,
+        })
+    }
+}
