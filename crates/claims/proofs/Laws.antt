@@ -1,0 +1,131 @@
+-- What a claim is answered, and when: each answer has one cause, and each cause one answer.
+use Prim.Native.Nat.{ℕ, _≤_, _<_}
+use mathlib.Core.Path.{_≡_, refl, sym, _∙_, subst}
+use mathlib.Core.Bool.{Bool, true, false}
+use mathlib.Core.List.{List}
+use borrow.Author.Tests.{lt-ltb, le-ltb, ltb-true, ltb-false}
+use lib.Dec.{ltb}
+use lib.ListN.{length}
+use Rattle.base.proofs.Choice.{took, left, by-test, never}
+use Rattle.block.specs.declared.State.{State}
+use Rattle.block.specs.declared.Refusal.the-variants as refusal
+use Rattle.kept.specs.declared.Entry.{Entry}
+use Rattle.kept.specs.Tables.{room, entryAt}
+use Rattle.kept.specs.Judgement.{textCounts, entryText}
+use Rattle.kept.specs.Inside.{TextCounted, TextInside}
+use Rattle.kept.proofs.Laws.{text-counted, text-counts-of, text-inside, entry-text-of}
+use Rattle.claims.specs.declared.Verdict.{Verdict}
+use Rattle.claims.specs.declared.Verdict.the-variants.{Confirmed, Denied, Refused}
+use Rattle.claims.specs.Claims.{same, nameText, claimOf}
+use Rattle.claims.proofs.Bytes.{same-equal, equal-same, same-differ, differ-same}
+
+fails : {b : Bool} → (b ≡ true → ⊥) → b ≡ false
+fails {b} n = by-test b (λ e. absurd (n e)) (λ e. e)
+
+module _ (number : ℕ) (claim : List ℕ) (s : State) (text names : List ℕ) where
+  -- by the tests, in their order
+  pub unsound : textCounts s (length text) (room names) ≡ false → Refused (refusal.Plain 13) ≡ claimOf number claim s text names
+  unfolding claimOf
+  unsound a = left _ _ a refl
+
+  pub unread : textCounts s (length text) (room names) ≡ true → s .names ≤ number → Refused (refusal.At 11 number) ≡ claimOf number claim s text names
+  unfolding claimOf
+  unread a b = took _ _ a (left _ _ (le-ltb _ _ b) refl)
+
+  module _ (a : textCounts s (length text) (room names) ≡ true) (b : number < s .names) {e : Entry} (is : e ≡ entryAt names number) where
+    pub outside : entryText s e ≡ false → Refused (refusal.At 13 number) ≡ claimOf number claim s text names
+    unfolding claimOf
+    outside c = rw (← is) (took _ _ a (took _ _ (lt-ltb _ _ b) (left _ _ c refl)))
+
+    pub equal : entryText s e ≡ true → same claim (nameText text e) ≡ true → Confirmed ≡ claimOf number claim s text names
+    unfolding claimOf
+    equal c d = rw (← is) (took _ _ a (took _ _ (lt-ltb _ _ b) (took _ _ c (took _ _ d refl))))
+
+    pub unequal : entryText s e ≡ true → same claim (nameText text e) ≡ false → Denied ≡ claimOf number claim s text names
+    unfolding claimOf
+    unequal c d = rw (← is) (took _ _ a (took _ _ (lt-ltb _ _ b) (took _ _ c (left _ _ d refl))))
+
+  -- the counts fit, the name is kept, and its text lies inside
+  pub record Answerable : Type 0 where
+    pub counts : TextCounted s text names
+    pub below : number < s .names
+    pub inside : TextInside s (entryAt names number)
+
+  -- an answer with its cause
+  pub data Cause : Verdict → Type 0 where
+    counts-outside : (TextCounted s text names → ⊥) → Cause (Refused (refusal.Plain 13))
+    not-kept : TextCounted s text names → s .names ≤ number → Cause (Refused (refusal.At 11 number))
+    text-outside : TextCounted s text names → number < s .names → (TextInside s (entryAt names number) → ⊥) → Cause (Refused (refusal.At 13 number))
+    differs : Answerable → (claim ≡ nameText text (entryAt names number) → ⊥) → Cause Denied
+    agrees : Answerable → claim ≡ nameText text (entryAt names number) → Cause Confirmed
+
+  -- all of the bytes of the name claimed
+  abbrev wholeName : List ℕ
+  wholeName = nameText text (entryAt names number)
+
+  -- from each cause its answer
+  pub confirmed-of : Answerable → claim ≡ wholeName → claimOf number claim s text names ≡ Confirmed
+  confirmed-of t e = sym (equal (text-counts-of s text names (t .counts)) (t .below) refl (entry-text-of _ _ (t .inside)) (equal-same _ _ e))
+
+  pub denied-of : Answerable → (claim ≡ wholeName → ⊥) → claimOf number claim s text names ≡ Denied
+  denied-of t n = sym (unequal (text-counts-of s text names (t .counts)) (t .below) refl (entry-text-of _ _ (t .inside)) (same-differ _ _ n))
+
+  pub eleven-of : TextCounted s text names → s .names ≤ number → claimOf number claim s text names ≡ Refused (refusal.At 11 number)
+  eleven-of t h = sym (unread (text-counts-of s text names t) h)
+
+  pub thirteen-at-of : TextCounted s text names → number < s .names → (TextInside s (entryAt names number) → ⊥) → claimOf number claim s text names ≡ Refused (refusal.At 13 number)
+  thirteen-at-of t h n = sym (outside (text-counts-of s text names t) h refl (fails (λ e. n (text-inside _ _ e))))
+
+  pub thirteen-of : (TextCounted s text names → ⊥) → claimOf number claim s text names ≡ Refused (refusal.Plain 13)
+  thirteen-of n = sym (unsound (fails (λ e. n (text-counted s text names e))))
+
+  -- every claim has an answer with its cause
+  pub cause : Cause (claimOf number claim s text names)
+  cause =
+      by-test (textCounts s (length text) (room names))
+      (λ a. by-test (ltb number (s .names))
+      (λ b. by-test (entryText s (entryAt names number))
+      (λ c.
+      let t : Answerable = record { counts = text-counted s text names a; below = ltb-true _ _ b; inside = text-inside _ _ c } in
+      by-test (same claim wholeName)
+      (λ d. subst (λ (v : Verdict). Cause v) (equal a (ltb-true _ _ b) refl c d) (agrees t (same-equal _ _ d)))
+      (λ d. subst (λ (v : Verdict). Cause v) (unequal a (ltb-true _ _ b) refl c d) (differs t (differ-same _ _ d))))
+      (λ c. subst (λ (v : Verdict). Cause v) (outside a (ltb-true _ _ b) refl c)
+      (text-outside (text-counted s text names a) (ltb-true _ _ b) (λ i. never (sym c ∙ entry-text-of _ _ i)))))
+      (λ b. subst (λ (v : Verdict). Cause v) (unread a (ltb-false _ _ b)) (not-kept (text-counted s text names a) (ltb-false _ _ b))))
+      (λ a. subst (λ (v : Verdict). Cause v) (unsound a) (counts-outside (λ t. never (sym a ∙ text-counts-of s text names t))))
+
+  -- from each answer its cause
+  of-confirmed : Cause Confirmed → Answerable × (claim ≡ wholeName)
+  of-confirmed (agrees t e) = (t, e)
+
+  of-denied : Cause Denied → Answerable × (claim ≡ wholeName → ⊥)
+  of-denied (differs t n) = (t, n)
+
+  of-eleven : Cause (Refused (refusal.At 11 number)) → TextCounted s text names × (s .names ≤ number)
+  of-eleven (not-kept t h) = (t, h)
+
+  of-thirteen-at : Cause (Refused (refusal.At 13 number)) → TextCounted s text names × ((number < s .names) × (TextInside s (entryAt names number) → ⊥))
+  of-thirteen-at (text-outside t h n) = (t, (h, n))
+
+  of-thirteen : Cause (Refused (refusal.Plain 13)) → TextCounted s text names → ⊥
+  of-thirteen (counts-outside n) = n
+
+  caused : {v : Verdict} → claimOf number claim s text names ≡ v → Cause v
+  caused q = subst (λ (v : Verdict). Cause v) q cause
+
+  pub confirmed : claimOf number claim s text names ≡ Confirmed → Answerable × (claim ≡ wholeName)
+  confirmed q = of-confirmed (caused q)
+
+  pub denied : claimOf number claim s text names ≡ Denied → Answerable × (claim ≡ wholeName → ⊥)
+  denied q = of-denied (caused q)
+
+  pub eleven : claimOf number claim s text names ≡ Refused (refusal.At 11 number) → TextCounted s text names × (s .names ≤ number)
+  eleven q = of-eleven (caused q)
+
+  pub thirteen-at : claimOf number claim s text names ≡ Refused (refusal.At 13 number)
+      → TextCounted s text names × ((number < s .names) × (TextInside s (entryAt names number) → ⊥))
+  thirteen-at q = of-thirteen-at (caused q)
+
+  pub thirteen : claimOf number claim s text names ≡ Refused (refusal.Plain 13) → TextCounted s text names → ⊥
+  thirteen q = of-thirteen (caused q)

@@ -1,0 +1,37 @@
+-- A claim: 13 for the counts, 11, 13 for that entry's text, then yes or no.
+use Prim.Native.Nat.{ℕ, _+_}
+use mathlib.Core.Bool.{Bool, true, false}
+use mathlib.Core.List.{List, [], _∷_}
+use lib.Dec.{ltb, eqb}
+use lib.ListN.{length}
+use Rattle.base.specs.Choice.{pick, both}
+use Rattle.base.specs.Memory.{part}
+use Rattle.block.specs.declared.State.{State}
+use Rattle.block.specs.declared.Refusal.the-variants as refusal
+use Rattle.kept.specs.declared.Entry.{Entry}
+use Rattle.kept.specs.Tables.{room, entryAt}
+use Rattle.kept.specs.Judgement.{textCounts, entryText}
+use Rattle.claims.specs.declared.Verdict.{Verdict}
+use Rattle.claims.specs.declared.Verdict.the-variants.{Confirmed, Denied, Refused}
+
+-- all of the bytes and nothing else
+unfoldable pub same : List ℕ → List ℕ → Bool
+same [] [] = true
+same [] (b ∷ t) = false
+same (a ∷ s) [] = false
+same (a ∷ s) (b ∷ t) = both (eqb a b) (same s t)
+
+-- the name that an entry keeps
+unfoldable pub nameText : List ℕ → Entry → List ℕ
+nameText text e = part text (e .start) (e .start + e .length)
+
+-- confirmed if its bytes are all of that name's bytes and nothing else, denied otherwise
+unfoldable pub claimOf : ℕ → List ℕ → State → List ℕ → List ℕ → Verdict
+claimOf number claim s text names =
+    pick (textCounts s (length text) (room names))
+    (pick (ltb number (s .names))
+    (pick (entryText s (entryAt names number))
+    (pick (same claim (nameText text (entryAt names number))) Confirmed Denied)
+    (Refused (refusal.At 13 number)))
+    (Refused (refusal.At 11 number)))
+    (Refused (refusal.Plain 13))

@@ -1,0 +1,5 @@
+pub mod Tests
+pub mod Writes
+pub mod Steps
+pub mod Laws
+pub mod Frame

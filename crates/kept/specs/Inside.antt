@@ -1,0 +1,69 @@
+-- What a judgement that passed tells: the kept numbers point inside. Each is the judgement of its name, said as inequalities.
+use Prim.Native.Nat.{ℕ, _+_, _*_, _≤_, _<_}
+use mathlib.Core.Bool.{true}
+use mathlib.Core.List.{List}
+use mathlib.Core.Logic.{_⊎_}
+use mathlib.Core.Path.{_≡_}
+use lib.ListN.{length}
+use Rattle.digits.specs.Digits.{fitsWidth}
+use Rattle.block.specs.declared.State.{State}
+use Rattle.kept.specs.declared.Entry.{Entry}
+use Rattle.kept.specs.declared.Row.{Row}
+use Rattle.kept.specs.Tables.{Kept, entryAt, rowAt}
+
+-- textCounts, of a text buffer and a table of names
+pub record TextCounted (s : State) (text names : List ℕ) : Type 0 where
+  pub kept : s .names ≤ s .count
+  pub limit : s .count ≤ 65536
+  pub entries : 5 * s .names ≤ length names
+  pub used : s .text ≤ length text
+  pub most : s .text ≤ 255 * s .names
+
+-- rowCounts, of a table of rows
+pub record RowCounted (s : State) (rows : List ℕ) : Type 0 where
+  pub rowsUsed : 5 * s .rows ≤ length rows
+  pub rowsMost : s .rows ≤ 127 * s .names
+
+-- counts
+pub record Counted (m : Kept) : Type 0 where
+  pub kept : m .state .names ≤ m .state .count
+  pub limit : m .state .count ≤ 65536
+  pub entries : 5 * m .state .names ≤ length (m .names)
+  pub used : m .state .text ≤ length (m .text)
+  pub most : m .state .text ≤ 255 * m .state .names
+  pub rowsUsed : 5 * m .state .rows ≤ length (m .rows)
+  pub rowsMost : m .state .rows ≤ 127 * m .state .names
+
+-- entryText
+pub record TextInside (s : State) (e : Entry) : Type 0 where
+  pub some : 1 ≤ e .length
+  pub most : e .length ≤ 254
+  pub ends : e .start + e .length ≤ s .text
+
+-- entryRows
+pub record RowsInside (s : State) (e : Entry) : Type 0 where
+  pub some : 1 ≤ e .rows
+  pub most : e .rows ≤ 127
+  pub ends : e .first + e .rows ≤ s .rows
+
+-- rowKind
+pub record KindInside (r : Row) : Type 0 where
+  pub kinds : (r .kind ≡ 1) ⊎ ((r .kind ≡ 2) ⊎ ((r .kind ≡ 4) ⊎ (r .kind ≡ 7)))
+  pub char : r .kind ≡ 2 → r .length ≡ 1
+  pub width : r .kind ≡ 4 → r .width ≤ 254
+  pub number : r .kind ≡ 4 → fitsWidth (r .number) (r .width) ≡ true
+
+-- rowFits
+pub record RowInside (used : ℕ) (r : Row) : Type 0 where
+  pub ends : r .start + r .length ≤ used
+  pub kind : KindInside r
+
+-- an entry and all its rows
+pub record EntryInside (s : State) (table : List ℕ) (e : Entry) : Type 0 where
+  pub text : TextInside s e
+  pub rows : RowsInside s e
+  pub each : (j : ℕ) → e .first ≤ j → j < e .first + e .rows → RowInside (s .text) (rowAt table j)
+
+-- earlierFits
+abbrev pub Earlier : Kept → ℕ → Type 0
+Earlier m i = EntryInside (m .state) (m .rows) (entryAt (m .names) i)

@@ -1,0 +1,349 @@
+-- What a step that gave a token tells: where the token lies, how large its numbers are, and where its cursor stands.
+use Prim.Native.Nat.{ℕ, _+_, _-_, _*_, _^_, _≤_, _<_}
+use mathlib.Core.Path.{_≡_, refl, sym, ap, _∙_, subst}
+use mathlib.Core.Bool.{Bool, true, false}
+use mathlib.Core.List.{List}
+use mathlib.Core.Logic.{⊎-elim}
+use native.Mathlib.Omega.{arith}
+use borrow.Author.Tests.{leb-true, ltb-true, eqb-true, eq-eqb}
+use lib.Dec.{leb, ltb, eqb}
+use lib.ListN.{length, getD}
+use Rattle.base.specs.Choice.{pick, both}
+use Rattle.base.proofs.Choice.{pick-true, pick-false, both-true, both-of, by-test, never}
+use Rattle.base.proofs.Numbers.{lt-or-ge}
+use Rattle.digits.specs.Digits.{fitsWidth}
+use Rattle.spans.specs.declared.Cursor.{Cursor}
+use Rattle.spans.specs.declared.NextByte.{NextByte}
+use Rattle.spans.specs.declared.NextByte.the-variants as byte
+use Rattle.spans.specs.declared.NextFour.{NextFour}
+use Rattle.spans.specs.declared.NextText.{NextText}
+use Rattle.spans.specs.Spans.{byteAt, four, fourAt, textEnd, textAt}
+use Rattle.spans.proofs.Laws.{end-found, byte-found}
+use Rattle.block.specs.Block.{spanOf, endOf, cursorOf}
+use Rattle.block.specs.Open.{Open}
+use Rattle.block.proofs.Laws.{span-below}
+use Rattle.tokens.specs.declared.TokenType.{TokenType}
+use Rattle.tokens.specs.declared.TokenType.the-variants as type
+use Rattle.tokens.specs.declared.Token.{Token}
+use Rattle.tokens.specs.declared.Token.the-variants.{String, Char, Digits, Digits0}
+use Rattle.tokens.specs.Types.{typeOf}
+use Rattle.tokens.specs.Inside.{Inside, KeptBelow}
+use Rattle.kept.specs.declared.Row.{Row}
+use Rattle.kept.specs.Tables.{Kept, entryAt, rowAt}
+use Rattle.kept.specs.Inside.{RowInside, Counted, Earlier as Fits}
+use Rattle.steps.specs.declared.Step.{Step}
+use Rattle.steps.specs.declared.Step.the-variants.{Got, End, Refused}
+use Rattle.steps.specs.Source.{Source, Earlier, earlier, byteIn, fourIn, textIn}
+use Rattle.steps.specs.Steps.{stringStep, charStep, digitsStep, paddedStep, widthStep, digits0Step, deltaStep, delta0Step, tokenOf, hasRow, rowHere, hasKind, deltaAt, delta0At, matchAt, valueStep, carries, barred, typedStep, stepAt}
+use Rattle.steps.specs.Sound.{Rows, reach, Below}
+use Rattle.steps.proofs.Picks.{pick-holds}
+
+-- what is known where a step is taken
+pub record Known (s : Source) (e : Earlier) (used p : ℕ) : Type 0 where
+  pub opened : Open (s .bytes) (s .dir) (s .cur)
+  pub rows : Rows used e
+  pub first : 1 ≤ p
+  pub last : p ≤ 128
+  pub bytes : Below 256 (s .bytes)
+  pub texts : Below 256 (e .text)
+  pub numbers : Below (2 ^ 32) (e .rows)
+
+-- a cursor between where a span's stood and the span's end
+abbrev pub Between : Source → ℕ → ℕ → Type 0
+Between s i c = (cursorOf (s .cur) i ≤ c) × (c ≤ endOf (s .dir) i)
+
+-- the cursor past a value, in the span of its type; a DZLEN has its byte
+abbrev pub Moved : Source → ℕ → ℕ → TokenType → Type 0
+Moved s p c type.String = Between s (spanOf p 1) c
+Moved s p c type.Char = Between s (spanOf p 2) c
+Moved s p c type.Digits = Between s (spanOf p 7) c
+Moved s p c type.Digits0 = Between s (spanOf p 3) c × (cursorOf (s .cur) (spanOf p 4) + 1 ≤ endOf (s .dir) (spanOf p 4))
+Moved s p c type.Delta = Between s (spanOf p 8) c
+Moved s p c type.Delta0 = Between s (spanOf p 9) c
+Moved s p c type.Match = Unit
+Moved s p c type.End = Unit
+Moved s p c type.Other = Unit
+
+-- what is to be shown of a step at a type
+abbrev Fine : Source → Earlier → ℕ → ℕ → TokenType → Step → Type 0
+Fine s e used p ty (Got t c) = Inside (s .bytes) (e .text) t × (KeptBelow used t × Moved s p (c .0) ty)
+Fine s e used p ty End = ty ≡ type.End
+Fine s e used p ty (Refused n) = Unit
+
+fresh-inside : (bytes text : List ℕ) (a z : ℕ) → a ≤ z → z ≤ length bytes → Inside bytes text (String (record { kept = false; start = a; end = z }))
+unfolding pick
+fresh-inside bytes text a z h l = (h, l)
+
+kept-inside : (bytes text : List ℕ) (a z : ℕ) → a ≤ z → z ≤ length text → Inside bytes text (String (record { kept = true; start = a; end = z }))
+unfolding pick
+kept-inside bytes text a z h l = (h, l)
+
+four-below : (bytes : List ℕ) (i : ℕ) → Below 256 bytes → four bytes i < 2 ^ 32
+unfolding four
+four-below bytes i h = omega (arith, h i, h (i + 1), h (i + 2), h (i + 3))
+
+module _ (s : Source) (e : Earlier) (used p : ℕ) (k : Known s e used p) where
+  ends : (i : ℕ) → i ≤ 9 → endOf (s .dir) (spanOf p i) ≤ length (s .bytes)
+  ends i h = k .opened .within (spanOf p i) (span-below p i (k .last) h)
+
+  string-fine : Fine s e used p type.String (stringStep (textIn s p 1))
+  unfolding stringStep textIn textAt
+  string-fine =
+      let at = cursorOf (s .cur) (spanOf p 1) in
+      let end = endOf (s .dir) (spanOf p 1) in
+      let z = textEnd (s .bytes) at end in
+      pick-holds (λ (x : NextText). Fine s e used p type.String (stringStep x)) (ltb z end) _ _
+      (λ h.
+      let l : z < end = ltb-true _ _ h in
+      let f = end-found (s .bytes) at end refl l in
+      let m : at ≤ z = f .low in
+      (fresh-inside (s .bytes) (e .text) at z m (omega (arith, ends 1 (omega arith))), ((λ q. absurd (never q)), (omega arith, omega arith))))
+      (λ h. tt)
+
+  char-fine : Fine s e used p type.Char (charStep (byteIn s p 2))
+  unfolding charStep byteIn byteAt
+  char-fine =
+      let at = cursorOf (s .cur) (spanOf p 2) in
+      let end = endOf (s .dir) (spanOf p 2) in
+      pick-holds (λ (x : NextByte). Fine s e used p type.Char (charStep x)) (leb (at + 1) end) _ _
+      (λ h. let l : at + 1 ≤ end = leb-true _ _ h in (k .bytes at, (tt, (omega arith, l))))
+      (λ h. tt)
+
+  digits-fine : Fine s e used p type.Digits (digitsStep (fourIn s p 7))
+  unfolding digitsStep fourIn fourAt
+  digits-fine =
+      let at = cursorOf (s .cur) (spanOf p 7) in
+      let end = endOf (s .dir) (spanOf p 7) in
+      pick-holds (λ (x : NextFour). Fine s e used p type.Digits (digitsStep x)) (leb (at + 4) end) _ _
+      (λ h. let l : at + 4 ≤ end = leb-true _ _ h in (four-below (s .bytes) at (k .bytes), (tt, (omega arith, l))))
+      (λ h. tt)
+
+  padded-fine : (ty : TokenType) (n w : ℕ) (c : Cursor) → n < 2 ^ 32 → w ≤ 255 → Moved s p (c .0) ty → Fine s e used p ty (paddedStep n w c)
+  unfolding paddedStep
+  padded-fine ty n w c h l m = pick-holds (λ (x : Step). Fine s e used p ty x) (fitsWidth n w) _ _ (λ f. ((h, (f, l)), (tt, m))) (λ f. tt)
+
+  digits0-fine : Fine s e used p type.Digits0 (digits0Step (fourIn s p 3) (byteIn s p 4))
+  unfolding digits0Step widthStep fourIn fourAt byteIn byteAt
+  digits0-fine =
+      let at = cursorOf (s .cur) (spanOf p 3) in
+      let end = endOf (s .dir) (spanOf p 3) in
+      let w = cursorOf (s .cur) (spanOf p 4) in
+      let stop = endOf (s .dir) (spanOf p 4) in
+      pick-holds (λ (x : NextFour). Fine s e used p type.Digits0 (digits0Step x (byteIn s p 4))) (leb (at + 4) end) _ _
+      (λ h.
+      let l : at + 4 ≤ end = leb-true _ _ h in
+      pick-holds (λ (x : NextByte). Fine s e used p type.Digits0 (widthStep (four (s .bytes) at) (record { 0 = at + 4 }) x)) (leb (w + 1) stop) _ _
+      (λ g. padded-fine type.Digits0 _ _ _ (four-below (s .bytes) at (k .bytes)) (omega (arith, k .bytes w)) ((omega arith, l), leb-true _ _ g))
+      (λ g. tt))
+      (λ h. tt)
+
+  row-inside : hasRow e p ≡ true → RowInside used (rowHere e p)
+  unfolding hasRow rowHere
+  row-inside h =
+      let l : p ≤ e .count = leb-true _ _ h in
+      let f : 1 ≤ p = k .first in
+      k .rows .each (e .first + (p - 1)) (omega arith) (omega arith)
+
+  number-below : rowHere e p .number < 2 ^ 32
+  unfolding rowHere rowAt
+  number-below = k .numbers _
+
+  delta-fine : Fine s e used p type.Delta (deltaAt s e p)
+  unfolding deltaAt deltaStep byteIn byteAt
+  delta-fine =
+      let at = cursorOf (s .cur) (spanOf p 8) in
+      let end = endOf (s .dir) (spanOf p 8) in
+      let n = rowHere e p .number in
+      let d = getD (s .bytes) at 0 in
+      pick-holds (λ (x : Step). Fine s e used p type.Delta x) (hasKind e p 7) _ _
+      (λ r.
+      pick-holds (λ (x : NextByte). Fine s e used p type.Delta (deltaStep n x)) (leb (at + 1) end) _ _
+      (λ h.
+      let l : at + 1 ≤ end = leb-true _ _ h in
+      pick-holds (λ (x : Step). Fine s e used p type.Delta x) (ltb (n + d) (2 ^ 32)) _ _
+      (λ g. (ltb-true _ _ g, (tt, (omega arith, l))))
+      (λ g. tt))
+      (λ h. tt))
+      (λ r. tt)
+
+  delta0-fine : Fine s e used p type.Delta0 (delta0At s e p)
+  unfolding delta0At delta0Step hasKind byteIn byteAt
+  delta0-fine =
+      let at = cursorOf (s .cur) (spanOf p 9) in
+      let end = endOf (s .dir) (spanOf p 9) in
+      let n = rowHere e p .number in
+      let w = rowHere e p .width in
+      let d = getD (s .bytes) at 0 in
+      pick-holds (λ (x : Step). Fine s e used p type.Delta0 x) (hasKind e p 4) _ _
+      (λ r.
+      let b = both-true (hasRow e p) (eqb (rowHere e p .kind) 4) r in
+      let v : w ≤ 254 = row-inside (b .0) .kind .width (eqb-true _ _ (b .1)) in
+      pick-holds (λ (x : NextByte). Fine s e used p type.Delta0 (delta0Step n w x)) (leb (at + 1) end) _ _
+      (λ h.
+      let l : at + 1 ≤ end = leb-true _ _ h in
+      pick-holds (λ (x : Step). Fine s e used p type.Delta0 x) (ltb (n + d) (2 ^ 32)) _ _
+      (λ g. padded-fine type.Delta0 (n + d) w _ (ltb-true _ _ g) (omega arith) (omega arith, l))
+      (λ g. tt))
+      (λ h. tt))
+      (λ r. tt)
+
+  -- what a row repeats
+  token-fine : (r : Row) → RowInside used r → r .number < 2 ^ 32 → Inside (s .bytes) (e .text) (tokenOf (e .text) r) × KeptBelow used (tokenOf (e .text) r)
+  unfolding tokenOf
+  token-fine r i n =
+      let P : Token → Type 0 = λ (t : Token). Inside (s .bytes) (e .text) t × KeptBelow used t in
+      let u : used ≤ length (e .text) = k .rows .room in
+      let z : r .start + r .length ≤ used = i .ends in
+      pick-holds P (eqb (r .kind) 1) _ _
+      (λ h. (kept-inside (s .bytes) (e .text) (r .start) (r .start + r .length) (omega arith) (omega arith), λ q. z))
+      (λ h.
+      pick-holds P (eqb (r .kind) 2) _ _
+      (λ g. (k .texts (r .start), tt))
+      (λ g.
+      pick-holds P (eqb (r .kind) 4) _ _
+      (λ f.
+      let w : r .width ≤ 254 = i .kind .width (eqb-true _ _ f) in
+      ((n, (i .kind .number (eqb-true _ _ f), omega arith)), tt))
+      (λ f. (n, tt))))
+
+  match-fine : (c : Cursor) → Fine s e used p type.Match (matchAt e p c)
+  unfolding matchAt
+  match-fine c =
+      pick-holds (λ (x : Step). Fine s e used p type.Match x) (hasRow e p) _ _
+      (λ h. let f = token-fine (rowHere e p) (row-inside h) number-below in (f .0, (f .1, tt)))
+      (λ h. tt)
+
+  value-fine : (c : Cursor) (ty : TokenType) → Fine s e used p ty (valueStep s e p c ty)
+  unfolding valueStep
+  value-fine c type.String = string-fine
+  value-fine c type.Char = char-fine
+  value-fine c type.Digits = digits-fine
+  value-fine c type.Digits0 = digits0-fine
+  value-fine c type.Delta = delta-fine
+  value-fine c type.Delta0 = delta0-fine
+  value-fine c type.Match = match-fine c
+  value-fine c type.End = refl
+  value-fine c type.Other = tt
+
+-- what a step that gave a token tells: its type byte, which is there; the token's place and numbers; its cursor. No token stands at the last position
+pub record Given (s : Source) (e : Earlier) (used p : ℕ) (t : Token) (c : Cursor) : Type 0 where
+  pub code : ℕ
+  pub next : Cursor
+  pub typed : byteIn s p 0 ≡ byte.Value code next
+  pub there : cursorOf (s .cur) (spanOf p 0) + 1 ≤ endOf (s .dir) (spanOf p 0)
+  pub before : p < 128
+  pub inside : Inside (s .bytes) (e .text) t
+  pub below : KeptBelow used t
+  pub moved : Moved s p (c .0) (typeOf code)
+
+-- what END tells
+pub record Ended (s : Source) (p : ℕ) : Type 0 where
+  pub code : ℕ
+  pub next : Cursor
+  pub typed : byteIn s p 0 ≡ byte.Value code next
+  pub there : cursorOf (s .cur) (spanOf p 0) + 1 ≤ endOf (s .dir) (spanOf p 0)
+  pub ends : typeOf code ≡ type.End
+
+not-got : {n : ℕ} {t : Token} {c : Cursor} → Refused n ≡ Got t c → ⊥
+not-got e = let z : _≡_ {A = ℕ} 0 1 = cc in omega arith
+
+refused-end : {n : ℕ} → Refused n ≡ End → ⊥
+refused-end e = let z : _≡_ {A = ℕ} 0 1 = cc in omega arith
+
+end-got : {t : Token} {c : Cursor} → End ≡ Got t c → ⊥
+end-got e = let z : _≡_ {A = ℕ} 0 1 = cc in omega arith
+
+module _ (s : Source) (e : Earlier) (p : ℕ) where
+  -- a type that gives a token is one that carries something
+  got-carries : (n : Cursor) (ty : TokenType) {t : Token} {c : Cursor} → valueStep s e p n ty ≡ Got t c → carries ty ≡ true
+  unfolding valueStep carries
+  got-carries n type.String q = refl
+  got-carries n type.Char q = refl
+  got-carries n type.Digits q = refl
+  got-carries n type.Digits0 q = refl
+  got-carries n type.Delta q = refl
+  got-carries n type.Delta0 q = refl
+  got-carries n type.Match q = refl
+  got-carries n type.End q = absurd (end-got q)
+  got-carries n type.Other q = absurd (not-got q)
+
+  unbarred : (ty : TokenType) → p ≤ 128 → barred p ty ≡ false → carries ty ≡ true → p < 128
+  unfolding barred
+  unbarred ty h b q =
+      ⊎-elim
+      (λ (l : p < 128). l)
+      (λ (l : 128 ≤ p). let m : p ≡ 128 = omega arith in absurd (never (sym b ∙ both-of (eq-eqb _ _ m) q)))
+      (lt-or-ge p 128)
+
+  byte-there : {b : ℕ} {n : Cursor} → byteIn s p 0 ≡ byte.Value b n → cursorOf (s .cur) (spanOf p 0) + 1 ≤ endOf (s .dir) (spanOf p 0)
+  unfolding byteIn
+  byte-there q = byte-found (s .bytes) (cursorOf (s .cur) (spanOf p 0)) (endOf (s .dir) (spanOf p 0)) q .room
+
+typed-given : (s : Source) (e : Earlier) (used p : ℕ) (t : Token) (c : Cursor) → Known s e used p → (found : NextByte) → byteIn s p 0 ≡ found → typedStep s e p found ≡ Got t c → Given s e used p t c
+unfolding typedStep
+typed-given s e used p t c k (byte.Value b n) q r =
+    by-test (barred p (typeOf b))
+    (λ h. absurd (not-got (sym (pick-true _ _ h) ∙ r)))
+    (λ h.
+    let v : valueStep s e p n (typeOf b) ≡ Got t c = sym (pick-false _ _ h) ∙ r in
+    let f : Fine s e used p (typeOf b) (Got t c) = subst (λ (x : Step). Fine s e used p (typeOf b) x) v (value-fine s e used p k n (typeOf b)) in
+    record {
+      code = b;
+      next = n;
+      typed = q;
+      there = byte-there s e p q;
+      before = unbarred s e p (typeOf b) (k .last) h (got-carries s e p n (typeOf b) v);
+      inside = f .0;
+      below = f .1 .0;
+      moved = f .1 .1;
+    })
+typed-given s e used p t c k byte.Short q r = absurd (not-got r)
+
+pub given : (s : Source) (e : Earlier) (used p : ℕ) {t : Token} {c : Cursor} → Known s e used p → stepAt s e p ≡ Got t c → Given s e used p t c
+unfolding stepAt
+given s e used p {t} {c} k r = typed-given s e used p t c k (byteIn s p 0) refl r
+
+typed-ended : (s : Source) (e : Earlier) (used p : ℕ) → Known s e used p → (found : NextByte) → byteIn s p 0 ≡ found → typedStep s e p found ≡ End → Ended s p
+unfolding typedStep
+typed-ended s e used p k (byte.Value b n) q r =
+    by-test (barred p (typeOf b))
+    (λ h. absurd (refused-end (sym (pick-true _ _ h) ∙ r)))
+    (λ h.
+    let v : valueStep s e p n (typeOf b) ≡ End = sym (pick-false _ _ h) ∙ r in
+    record {
+      code = b;
+      next = n;
+      typed = q;
+      there = byte-there s e p q;
+      ends = subst (λ (x : Step). Fine s e used p (typeOf b) x) v (value-fine s e used p k n (typeOf b));
+    })
+typed-ended s e used p k byte.Short q r = absurd (refused-end r)
+
+pub ended : (s : Source) (e : Earlier) (used p : ℕ) → Known s e used p → stepAt s e p ≡ End → Ended s p
+unfolding stepAt
+ended s e used p k r = typed-ended s e used p k (byteIn s p 0) refl r
+
+-- The earlier name's rows
+
+module _ (used : ℕ) (e : Earlier) (r : Rows used e) where
+  row-more : (most : ℕ) → used ≤ most → (x : Row) → RowInside used x → RowInside most x
+  row-more most h x i = record { ends = let l : x .start + x .length ≤ used = i .ends in omega arith; kind = i .kind }
+
+  pub rows-more : (most : ℕ) → used ≤ most → most ≤ length (e .text) → Rows most e
+  rows-more most h l = record { table = r .table; most = r .most; room = l; each = λ j a b. row-more most h _ (r .each j a b) }
+
+  -- what the functions require
+  pub rows-reach : used < 2 ^ 32 → Rows (reach (e .text)) e
+  rows-reach h = let u : used ≤ length (e .text) = r .room in rows-more (reach (e .text)) (omega arith) (omega arith)
+
+-- no earlier name
+pub rows-none : (used : ℕ) (text rows : List ℕ) → used ≤ length text → Rows used (earlier text rows 0 0)
+rows-none used text rows h = record { table = omega arith; most = omega arith; room = h; each = λ j a b. absurd (omega arith) }
+
+-- an earlier name that was judged
+pub rows-judged : (m : Kept) (i : ℕ) → Counted m → Fits m i
+    → Rows (m .state .text) (earlier (m .text) (m .rows) (entryAt (m .names) i .first) (entryAt (m .names) i .rows))
+rows-judged m i c f =
+    let a : entryAt (m .names) i .first + entryAt (m .names) i .rows ≤ m .state .rows = f .rows .ends in
+    let b : 5 * m .state .rows ≤ length (m .rows) = c .rowsUsed in
+    record { table = omega arith; most = f .rows .most; room = c .used; each = f .each }

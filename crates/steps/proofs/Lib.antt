@@ -1,0 +1,4 @@
+pub mod Picks
+pub mod Ways
+pub mod Laws
+pub mod Frame

@@ -1,0 +1,85 @@
+use Rattle.tokens.specs.Tokens.{bytesOf, lengthOf}
+use Rattle.tokens.specs.Inside.{Inside, KeptBelow}
+use borrow.Author.Needs.{needs}
+use Rattle.tokens.proofs.put.Statement.{statement}
+use Rattle.tokens.proofs.put.Tie as tie
+
+enum-known-t : tie.Need-enum-known-t
+enum-known-t c = search needs
+
+put-text-requires : tie.Need-put-text-requires
+unfolding lengthOf
+put-text-requires c κs =
+    let s = c .before .before .before .before .before .before in
+    let e = c .before .before .t .given .1 in
+    (rw e at (s .pre .0), (rw e at (s .pre .1 .0), rw e at (s .pre .1 .1)))
+
+enum-known-t-2 : tie.Need-enum-known-t-2
+enum-known-t-2 c = search needs
+
+put-byte-requires : tie.Need-put-byte-requires
+unfolding lengthOf
+put-byte-requires c κs = rw (c .before .before .t2 .given .1) at (c .before .before .before .before .before .before .pre .1 .1)
+
+enum-known-t-3 : tie.Need-enum-known-t-3
+enum-known-t-3 c = search needs
+
+print-requires : tie.Need-print-requires
+unfolding lengthOf
+print-requires c κs = rw (c .before .before .t3 .given .1) at (c .before .before .before .before .before .before .pre .1 .1)
+
+enum-known-t-4 : tie.Need-enum-known-t-4
+enum-known-t-4 c = search needs
+
+print-padded-requires : tie.Need-print-padded-requires
+unfolding lengthOf
+print-padded-requires c κs = rw (c .before .before .t4 .given .1) at (c .before .before .before .before .before .before .pre .1 .1)
+
+same-length : tie.Need-same-length
+same-length c = search needs
+
+returns : tie.Need-returns
+unfolding bytesOf
+returns c = rw (c .before .before .before .before .before .t .given .1) (c .before .before .put-text .ensures)
+
+same-length-2 : tie.Need-same-length-2
+same-length-2 c = search needs
+
+returns-2 : tie.Need-returns-2
+unfolding bytesOf
+returns-2 c = rw (c .before .before .before .before .before .t2 .given .1) (c .before .before .put-byte .ensures)
+
+same-length-3 : tie.Need-same-length-3
+same-length-3 c = search needs
+
+returns-3 : tie.Need-returns-3
+unfolding bytesOf
+returns-3 c = rw (c .before .before .before .before .before .t3 .given .1) (c .before .before .print .ensures .1)
+
+same-length-4 : tie.Need-same-length-4
+same-length-4 c = search needs
+
+returns-4 : tie.Need-returns-4
+unfolding bytesOf
+returns-4 c = rw (c .before .before .before .before .before .t4 .given .1) (c .before .before .print-padded .ensures)
+
+pub put-spec : {M : Type 1} → statement M
+put-spec =
+    tie.close
+    (tie.spec
+    enum-known-t
+    put-text-requires
+    enum-known-t-2
+    put-byte-requires
+    enum-known-t-3
+    print-requires
+    enum-known-t-4
+    print-padded-requires
+    same-length
+    returns
+    same-length-2
+    returns-2
+    same-length-3
+    returns-3
+    same-length-4
+    returns-4)

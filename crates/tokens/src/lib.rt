@@ -1,0 +1,194 @@
+// The token: its type as the stream says it, and, once resolved, one of four things, two of them carrying a number;
+// what it prints and the row that it keeps.
+ghost use mathlib.Core.Path.{_≡_};
+ghost use mathlib.Core.Bool.{true};
+ghost use Prim.Native.Nat.{_≤_, _+_, _*_, _-_};
+ghost use mathlib.Core.List.{[], _∷_};
+ghost use lib.ListN.{length};
+ghost use Rattle.base.specs.Choice.{pick};
+ghost use Rattle.base.specs.Memory.{written, part};
+ghost use Rattle.classes.specs.Classes.{classTable, allAllowed};
+ghost use Rattle.tokens.specs.Types.{typeOf};
+ghost use Rattle.tokens.specs.Tokens.{bytesOf, kindOf, numberOf, widthOf, lengthOf, rowOf};
+ghost use Rattle.tokens.specs.Inside.{Inside, KeptBelow};
+
+// What a type byte says. Document 01's table, and `Other` for a byte that is not in it.
+pub enum TokenType {
+    String,
+    Char,
+    Digits,
+    Digits0,
+    Delta,
+    Delta0,
+    Match,
+    End,
+    Other,
+}
+
+// A number printed with zeros in front up to its width.
+pub struct Padded {
+    pub number: u32,
+    pub width: u32,
+}
+
+// Where the bytes of a STRING lie: in the block's bytes, or in the kept text where MATCH repeats an earlier one.
+pub struct Text {
+    pub kept: bool,
+    pub start: u32,
+    pub end: u32,
+}
+
+pub enum Token {
+    String(Text),
+    Char(u8),
+    Digits(u32),
+    Digits0(Padded),
+}
+
+pub fn type_of(b: u8) -> TokenType
+    ensures { λ r. ⌜ r ≡ typeOf b ⌝ }
+{
+    match b {
+        1 => TokenType::String,
+        2 => TokenType::Char,
+        4 => TokenType::Digits0,
+        7 => TokenType::Digits,
+        11 => TokenType::Delta,
+        12 => TokenType::Delta0,
+        13 => TokenType::Match,
+        14 => TokenType::End,
+        _ => TokenType::Other,
+    }
+}
+
+pub fn kind(t: Token) -> u32
+    ensures { λ r. ⌜ r ≡ kindOf t ⌝ }
+{
+    match t {
+        Token::String(_) => 1,
+        Token::Char(_) => 2,
+        Token::Digits(_) => 7,
+        Token::Digits0(_) => 4,
+    }
+}
+
+pub fn number(t: Token) -> u32
+    ensures { λ r. ⌜ r ≡ numberOf t ⌝ }
+{
+    match t {
+        Token::String(_) => 0,
+        Token::Char(_) => 0,
+        Token::Digits(n) => n,
+        Token::Digits0(p) => p.number,
+    }
+}
+
+pub fn width(t: Token) -> u32
+    ensures { λ r. ⌜ r ≡ widthOf t ⌝ }
+{
+    match t {
+        Token::String(_) => 0,
+        Token::Char(_) => 0,
+        Token::Digits(_) => 0,
+        Token::Digits0(p) => p.width,
+    }
+}
+
+fn text_length(t: Text) -> u32
+    ensures { λ r. ⌜ r ≡ t .end - t .start ⌝ }
+{
+    let start = t.start;
+    let end = t.end;
+    if start < end { end - start } else { 0 }
+}
+
+// How many bytes are printed.
+pub fn length(t: Token) -> u32
+    ensures { λ r. ⌜ r ≡ lengthOf t ⌝ }
+{
+    match t {
+        Token::String(s) => text_length(s),
+        Token::Char(_) => 1,
+        Token::Digits(n) => digits::count(n) as u32,
+        Token::Digits0(p) => p.width,
+    }
+}
+
+fn text_allowed(t: Text, table: &[u8; 256], bytes: &[u8], text: &[u8]) -> bool
+    requires { ⌜ now table ≡ classTable ⌝ }
+    requires { ⌜ (t .start ≤ t .end) × (t .end ≤ length (pick (t .kept) (now text) (now bytes))) ⌝ }
+    ensures { λ r. ⌜ r ≡ allAllowed (part (pick (t .kept) (now (text .entry)) (now (bytes .entry))) (t .start) (t .end)) ⌝ }
+{
+    let from = t.start as usize;
+    let to = t.end as usize;
+    if t.kept {
+        classes::allowed(table, text, from, to)
+    } else {
+        classes::allowed(table, bytes, from, to)
+    }
+}
+
+fn byte_allowed(b: u8, table: &[u8; 256]) -> bool
+    requires { ⌜ now table ≡ classTable ⌝ }
+    ensures { λ r. ⌜ r ≡ allAllowed (b ∷ []) ⌝ }
+{
+    if classes::class_in(table, b) == 0 {
+        false
+    } else {
+        true
+    }
+}
+
+// Every byte printed is one that SAM allows; a number has digits only.
+pub fn allowed(t: Token, table: &[u8; 256], bytes: &[u8], text: &[u8]) -> bool
+    requires { ⌜ now table ≡ classTable ⌝ }
+    requires { ⌜ Inside (now bytes) (now text) t ⌝ }
+    ensures { λ r. ⌜ r ≡ allAllowed (bytesOf (now (bytes .entry)) (now (text .entry)) t) ⌝ }
+{
+    match t {
+        Token::String(s) => text_allowed(s, table, bytes, text),
+        Token::Char(b) => byte_allowed(b, table),
+        Token::Digits(_) => true,
+        Token::Digits0(_) => true,
+    }
+}
+
+fn put_text(t: Text, bytes: &[u8], text: &mut [u8], at: usize)
+    requires { ⌜ (t .start ≤ t .end) × (t .end ≤ length (pick (t .kept) (now text) (now bytes))) ⌝ }
+    requires { ⌜ (t .kept ≡ true → t .end ≤ at) ⌝ }
+    requires { ⌜ at + (t .end - t .start) ≤ length (now text) ⌝ }
+    ensures { λ _. ⌜ now (text .exit) ≡ written (now (text .entry)) at (part (pick (t .kept) (now (text .entry)) (now (bytes .entry))) (t .start) (t .end)) ⌝ }
+{
+    let from = t.start as usize;
+    let to = t.end as usize;
+    if t.kept {
+        base::copy_within(text, from, to, at);
+    } else {
+        base::copy_at(bytes, from, to, text, at);
+    }
+}
+
+// A token's printed bytes at a place of the text; a number is printed anew.
+pub fn put(t: Token, bytes: &[u8], text: &mut [u8], at: usize)
+    requires { ⌜ Inside (now bytes) (now text) t ⌝ }
+    requires { ⌜ KeptBelow at t ⌝ }
+    requires { ⌜ at + lengthOf t ≤ length (now text) ⌝ }
+    ensures { λ _. ⌜ now (text .exit) ≡ written (now (text .entry)) at (bytesOf (now (bytes .entry)) (now (text .entry)) t) ⌝ }
+{
+    match t {
+        Token::String(s) => put_text(s, bytes, text, at),
+        Token::Char(b) => base::put_byte(text, at, b),
+        Token::Digits(n) => {
+            digits::print(n, text, at);
+        }
+        Token::Digits0(p) => digits::print_padded(p.number, p.width, text, at),
+    }
+}
+
+// A token's row, its text starting at a place.
+pub fn put_row(t: Token, rows: &mut [u32], row: usize, at: u32)
+    requires { ⌜ 5 * row + 5 ≤ length (now rows) ⌝ }
+    ensures { λ _. ⌜ now (rows .exit) ≡ written (now (rows .entry)) (5 * row) (rowOf t at) ⌝ }
+{
+    base::put_five(rows, 5 * row, kind(t), number(t), width(t), at, length(t));
+}

@@ -1,0 +1,266 @@
+//! Valid blocks, thought up name by name: each name's text is known before it is encoded.
+
+use super::random::Random;
+use super::script::{Packed, Script};
+
+/// A block and the names it must give.
+pub struct Planned {
+    pub names: Vec<Vec<u8>>,
+    pub block: Packed,
+}
+
+/// What a token stands for; printed here by the formatter, not by the reader's rules.
+#[derive(Clone)]
+enum Thought {
+    Text(Vec<u8>),
+    Byte(u8),
+    Number(u32),
+    Wide(u32, u8),
+}
+
+/// How a token is put into the stream.
+#[derive(Clone, Copy)]
+enum Way {
+    Fresh,
+    Delta(u8),
+    Match,
+}
+
+struct Name {
+    text: Vec<u8>,
+    tokens: Vec<(Way, Thought)>,
+}
+
+const MOST_BYTES: usize = 254;
+const MOST_TOKENS: usize = 127;
+
+impl Thought {
+    fn print(&self) -> Vec<u8> {
+        match self {
+            Thought::Text(text) => text.clone(),
+            Thought::Byte(byte) => vec![*byte],
+            Thought::Number(number) => format!("{number}").into_bytes(),
+            Thought::Wide(number, width) => {
+                format!("{number:0>width$}", width = usize::from(*width)).into_bytes()
+            }
+        }
+    }
+}
+
+/// A block of so many names at most.
+pub fn planned(random: &mut Random, most: usize) -> Planned {
+    let count = random.between(1, most);
+    let longest = random.pick(&[1, 3, 8, 8, 20, MOST_TOKENS]);
+    let mut names: Vec<Name> = Vec::new();
+    let mut script = Script::new();
+    for number in 0..count {
+        let distance = distance(random, number);
+        if number > 0 && random.percent(15) {
+            let earlier = &names[number - distance];
+            script = script.dup(distance as u32);
+            names.push(Name {
+                text: earlier.text.clone(),
+                tokens: earlier.tokens.clone(),
+            });
+            continue;
+        }
+        let earlier = names
+            .len()
+            .checked_sub(distance)
+            .and_then(|place| names.get(place));
+        let name = think(random, earlier, longest);
+        script = encode(script.diff(distance as u32), &name);
+        names.push(name);
+    }
+    let block = if random.percent(50) {
+        script.packed()
+    } else {
+        script.scattered(random)
+    };
+    Planned {
+        names: names.into_iter().map(|name| name.text).collect(),
+        block,
+    }
+}
+
+fn distance(random: &mut Random, number: usize) -> usize {
+    match (number, random.below(3)) {
+        (0, _) => 0,
+        (_, 0) => 1,
+        (_, 1) => number,
+        _ => random.between(1, number),
+    }
+}
+
+fn think(random: &mut Random, earlier: Option<&Name>, longest: usize) -> Name {
+    let wanted = match random.below(4) {
+        0 => longest,
+        _ => random.between(1, longest),
+    };
+    let mut text = Vec::new();
+    let mut tokens = Vec::new();
+    for place in 0..wanted {
+        let left = MOST_BYTES - text.len();
+        let row = earlier.and_then(|name| name.tokens.get(place));
+        let row = row.map(|(_, thought)| thought);
+        // So many tokens fit into a name only if they are short.
+        let widest = if longest == MOST_TOKENS { 2 } else { left };
+        let (way, thought) = token(random, row, widest);
+        let printed = thought.print();
+        if printed.len() > left {
+            break;
+        }
+        text.extend(printed);
+        tokens.push((way, thought));
+    }
+    if text.is_empty() {
+        let byte = random.allowed();
+        tokens.pop();
+        tokens.push((Way::Fresh, Thought::Byte(byte)));
+        text.push(byte);
+    }
+    Name { text, tokens }
+}
+
+fn token(random: &mut Random, row: Option<&Thought>, left: usize) -> (Way, Thought) {
+    if let Some(row) = row {
+        if random.percent(45) {
+            return (Way::Match, row.clone());
+        }
+        let delta = random.byte();
+        if let Some(sum) = stepped(row, delta).filter(|_| random.percent(60)) {
+            return (Way::Delta(delta), sum);
+        }
+    }
+    (Way::Fresh, fresh(random, left))
+}
+
+/// The row with the delta added, where the rules allow one.
+fn stepped(row: &Thought, delta: u8) -> Option<Thought> {
+    match row {
+        Thought::Number(number) => number.checked_add(delta.into()).map(Thought::Number),
+        Thought::Wide(number, width) => {
+            let sum = number.checked_add(delta.into())?;
+            let fits = format!("{sum}").len() <= usize::from(*width);
+            fits.then_some(Thought::Wide(sum, *width))
+        }
+        Thought::Text(_) | Thought::Byte(_) => None,
+    }
+}
+
+fn fresh(random: &mut Random, left: usize) -> Thought {
+    match random.below(4) {
+        2 | 3 if left <= 2 => Thought::Wide(random.below(10) as u32, left.max(1) as u8),
+        0 => Thought::Text(text(random, left)),
+        1 => Thought::Byte(random.allowed()),
+        2 => Thought::Number(random.printed_number()),
+        _ => {
+            let number = random.printed_number();
+            let least = format!("{number}").len();
+            let most = random.pick(&[least, least + 1, least + 4, left.max(least)]);
+            Thought::Wide(number, random.between(least, most) as u8)
+        }
+    }
+}
+
+/// Also empty texts, texts of digits alone, and texts that fill the name.
+fn text(random: &mut Random, left: usize) -> Vec<u8> {
+    let length = match random.below(20) {
+        0..=2 => 0,
+        3 => left,
+        4 => random.between(0, left),
+        _ => random.between(1, 8.min(left.max(1))),
+    };
+    let digits = random.percent(25);
+    let byte = |_| {
+        if digits {
+            random.digit()
+        } else {
+            random.allowed()
+        }
+    };
+    (0..length).map(byte).collect()
+}
+
+fn encode(script: Script, name: &Name) -> Script {
+    let put = |script: Script, (way, thought): &(Way, Thought)| match (way, thought) {
+        (Way::Match, _) => script.matched(),
+        (Way::Delta(delta), Thought::Wide(..)) => script.ddelta0(*delta),
+        (Way::Delta(delta), _) => script.ddelta(*delta),
+        (Way::Fresh, Thought::Text(text)) => script.string(text),
+        (Way::Fresh, Thought::Byte(byte)) => script.char(*byte),
+        (Way::Fresh, Thought::Number(number)) => script.digits(*number),
+        (Way::Fresh, Thought::Wide(number, width)) => script.digits0(*number, *width),
+    };
+    name.tokens.iter().fold(script, put).end()
+}
+
+/// Streams of types and values taken at random, right often enough to get somewhere.
+pub fn wild(random: &mut Random) -> Packed {
+    let mut script = Script::new();
+    for number in 0..random.between(1, 8) {
+        script = wild_lead(random, script, number);
+        script = if random.percent(5) {
+            wild_to_the_last(random, script)
+        } else {
+            wild_tokens(random, script)
+        };
+    }
+    script.packed()
+}
+
+fn wild_tokens(random: &mut Random, script: Script) -> Script {
+    let tokens = random.below(7);
+    let script = (0..tokens).fold(script, |script, _| wild_token(random, script));
+    if random.percent(95) {
+        script.end()
+    } else {
+        script
+    }
+}
+
+/// Short tokens up to position 127, and any type at position 128.
+fn wild_to_the_last(random: &mut Random, script: Script) -> Script {
+    let short = |script: Script, _| match random.below(3) {
+        0 => script.string(b""),
+        _ => script.char(random.allowed()),
+    };
+    let script = (1..=MOST_TOKENS).fold(script, short);
+    match random.below(4) {
+        0 => script.end(),
+        1 => script.kind(random.byte()),
+        _ => script.kind(random.pick(&[1, 2, 4, 7, 11, 12, 13])),
+    }
+}
+
+fn wild_lead(random: &mut Random, script: Script, number: usize) -> Script {
+    let distance = random.below(number + 2) as u32;
+    match random.below(40) {
+        0 => script.lead(random.byte()),
+        1 => script.lead(5),
+        2 => script.dup(random.number()),
+        3 => script.diff(distance << 24),
+        4..=9 => script.dup(distance),
+        _ if number == 0 => script.diff(0),
+        _ => script.diff(distance),
+    }
+}
+
+fn wild_token(random: &mut Random, script: Script) -> Script {
+    let number = random.printed_number();
+    match random.below(60) {
+        0 => script.kind(random.byte()),
+        1 => script.char(random.byte()),
+        2 => script.string(&[random.byte()]),
+        3 => script.digits0(number, random.byte()),
+        4 => script.kind(random.pick(&[1, 2, 4, 7, 11, 12, 13])),
+        5 => script.string(&vec![b'q'; random.between(240, 300)]),
+        6..=14 => script.digits(number),
+        15..=24 => script.digits0(number, 10),
+        25..=32 => script.string(&text(random, 20)),
+        33..=40 => script.char(random.allowed()),
+        41..=45 => script.ddelta(random.byte()),
+        46..=50 => script.ddelta0(random.byte()),
+        _ => script.matched(),
+    }
+}

@@ -1,0 +1,90 @@
+//! The listing program.
+
+use second::listing::listing;
+use std::io::Write;
+use std::process::{Command, Stdio};
+
+const INPUT: &[u8] = b"run7:0098\nrun7:0099\nrun7:0100\nrun7:0100\n";
+const OUTPUT: &str = "\
+0 DIFF 0 STRING run DIGITS 7 CHAR : DIGITS0 98/4 END
+1 DIFF 1 MATCH MATCH MATCH DDELTA0 1 END
+2 DIFF 1 MATCH MATCH MATCH DDELTA0 1 END
+3 DUP 1
+4 names 51 bytes
+";
+
+fn listed(input: &[u8]) -> String {
+    String::from_utf8(listing(input)).unwrap()
+}
+
+/// The program itself, not its function.
+fn printed(input: &[u8]) -> String {
+    let mut program = Command::new(env!("CARGO_BIN_EXE_listing"))
+        .stdin(Stdio::piped())
+        .stdout(Stdio::piped())
+        .spawn()
+        .unwrap();
+    program.stdin.take().unwrap().write_all(input).unwrap();
+    let output = program.wait_with_output().unwrap();
+    assert!(output.status.success());
+    String::from_utf8(output.stdout).unwrap()
+}
+
+#[test]
+fn the_paper_s_listing() {
+    assert_eq!(listed(INPUT), OUTPUT);
+    assert_eq!(printed(INPUT), OUTPUT);
+}
+
+#[test]
+fn empty_input() {
+    assert_eq!(listed(b""), "0 names 0 bytes\n");
+    assert_eq!(printed(b""), "0 names 0 bytes\n");
+}
+
+#[test]
+fn refusals() {
+    assert_eq!(listed(b"good\nba@d\n"), "refused 8 at 1\n");
+    assert_eq!(listed(b"\n"), "refused 8 at 0\n");
+    assert_eq!(listed(b"ba@d\nunended"), "refused 12\n");
+    assert_eq!(listed(b"ten\r\n"), "refused 8 at 0\n");
+}
+
+#[test]
+fn more_than_4096_bytes_is_9_whatever_they_are() {
+    let most = b"aaaaaaa\n".repeat(512);
+    assert!(listed(&most).ends_with("\n512 names 2570 bytes\n"));
+    assert_eq!(listed(&[&most[..], b"a"].concat()), "refused 9\n");
+    assert_eq!(listed(&[b'@'; 4_097]), "refused 9\n");
+    assert_eq!(printed(&[b'\n'; 4_097]), "refused 9\n");
+    assert_eq!(listed(&[b'@'; 4_096]), "refused 12\n");
+}
+
+#[test]
+fn each_type_as_it_is_shown() {
+    let expected = "\
+0 DIFF 0 CHAR x DIGITS0 7/2 STRING ab DIGITS 5 END
+1 DIFF 1 CHAR y DDELTA0 2 STRING ac DDELTA 255 END
+2 DIFF 1 MATCH DIGITS0 9/3 MATCH DIGITS0 0/1 END
+3 names 59 bytes
+";
+    assert_eq!(listed(b"x07ab5\ny09ac260\ny009ac0\n"), expected);
+}
+
+/// What position 127 holds is one CHAR or STRING, digits too.
+#[test]
+fn the_rest_at_position_127() {
+    let name = |rest: &str| ["a1".repeat(63), rest.into(), "\n".into()].concat();
+    let last = |rest: &str| {
+        let out = listed(name(rest).as_bytes());
+        let line = out.lines().next().unwrap().to_string();
+        line.rsplit_once("DIGITS 1 ").unwrap().1.to_string()
+    };
+    assert_eq!(last("a7"), "STRING a7 END");
+    assert_eq!(last("b"), "CHAR b END");
+    assert_eq!(last("b12345678901c"), "STRING b12345678901c END");
+    let digits = ["1a".repeat(63), "7\n".into()].concat();
+    assert!(listed(digits.as_bytes()).contains(" CHAR a CHAR 7 END\n"));
+    let twice = ["1a".repeat(63), "7\n".into(), "1a".repeat(63), "8\n".into()].concat();
+    assert!(listed(twice.as_bytes()).contains(" MATCH CHAR 8 END\n"));
+}
