@@ -58,6 +58,15 @@ impl State {
             && used <= u64::from(MOST_ROWS) * u64::from(self.kept);
         good.then_some(()).ok_or(Reason::Outside)
     }
+
+    fn after(&self, name: &NewName) -> State {
+        State {
+            count: self.count,
+            kept: self.kept + 1,
+            text_used: self.text_used + name.text.len() as u32 + 1,
+            rows_used: self.rows_used + name.added().len() as u32,
+        }
+    }
 }
 
 /// An entry of the name table.
@@ -84,13 +93,13 @@ impl Entry {
     }
 
     pub fn numbers(&self) -> [u32; 5] {
-        let Entry {
-            text_start,
-            text_length,
-            ..
-        } = *self;
-        let rows = [self.first_row, self.row_count];
-        [text_start, text_length, rows[0], rows[1], self.distance]
+        [
+            self.text_start,
+            self.text_length,
+            self.first_row,
+            self.row_count,
+            self.distance,
+        ]
     }
 
     /// The entry's text, or 13: its byte 10 isn't part of it.
@@ -175,17 +184,6 @@ impl Tables<'_> {
         for (number, row) in (state.rows_used..).zip(name.added()) {
             let text_start = state.text_used + row.text_start;
             put_five(self.rows, number, Row { text_start, ..*row }.numbers());
-        }
-    }
-}
-
-impl State {
-    fn after(&self, name: &NewName) -> State {
-        State {
-            count: self.count,
-            kept: self.kept + 1,
-            text_used: self.text_used + name.text.len() as u32 + 1,
-            rows_used: self.rows_used + name.added().len() as u32,
         }
     }
 }

@@ -1,10 +1,15 @@
 //! The memory that calls are lent, owned in one place so that it can be copied and compared.
 
-use crate::calls::Calls;
+#[cfg(feature = "linked")]
+use crate::boundary::Linked;
+use crate::calls::{Calls, Second};
 use crate::cases::script::Packed;
 use crate::claim::KeptText;
+#[cfg(feature = "linked")]
+use crate::compare::{compare, Case, Tally};
 use crate::directory::{Block, DIRECTORY, SPANS};
 use crate::kept::{Entry, Tables, FIVE};
+use crate::refusal::unpack;
 use std::fmt;
 
 /// Elements before and behind each lent slice; a call that strays alters them.
@@ -166,6 +171,24 @@ impl Memory {
             ),
             Call::Open { .. } | Call::Read | Call::ReadBlock { .. } => self.run_read(calls, call),
         }
+    }
+
+    /// Code and value of the second program. With the library linked, it is asked on a copy
+    /// of the same memory and must say and leave the same.
+    pub fn ask(&mut self, call: &Call) -> (u32, u32) {
+        #[cfg(feature = "linked")]
+        self.assert_linked_alike(call);
+        unpack(self.run(&Second, call))
+    }
+
+    #[cfg(feature = "linked")]
+    fn assert_linked_alike(&self, call: &Call) {
+        let case = Case {
+            memory: self.clone(),
+            calls: vec![call.clone()],
+        };
+        let compared = compare(&case, &Second, &Linked, &mut Tally::new());
+        compared.unwrap_or_else(|found| panic!("{found}"));
     }
 
     fn run_read(&mut self, calls: &dyn Calls, call: &Call) -> u64 {

@@ -43,13 +43,13 @@ impl Row {
     }
 
     pub fn numbers(&self) -> [u32; 5] {
-        let Row {
-            kind,
-            number,
-            width,
-            ..
-        } = *self;
-        [kind, number, width, self.text_start, self.text_length]
+        [
+            self.kind,
+            self.number,
+            self.width,
+            self.text_start,
+            self.text_length,
+        ]
     }
 
     /// Refusal 13 for a row, or the token it keeps. The bytes under a number row's text

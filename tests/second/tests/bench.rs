@@ -20,8 +20,13 @@ fn refused(script: Script) -> (u32, u32) {
     read_whole(&script.packed()).0
 }
 
+/// The listing, whose total is that of the call that writes.
 fn listed(input: &str) -> String {
-    String::from_utf8(listing(input.as_bytes())).unwrap()
+    let (answer, _) = write_whole(input.as_bytes(), 0);
+    let listed = String::from_utf8(listing(input.as_bytes())).unwrap();
+    assert_eq!(answer.0, 0);
+    assert!(listed.ends_with(&format!(" names {} bytes\n", answer.1)));
+    listed
 }
 
 #[test]

@@ -5,9 +5,8 @@ use second::cases::script::Script;
 use second::cases::{read_whole, write_whole};
 use second::directory::{place, Stream};
 use second::listing::listing;
-use second::memory::{Call, Memory};
-use second::refusal::{unpack, DONE};
-use second::{calls::Second, memory::Room};
+use second::memory::{Call, Memory, Room};
+use second::refusal::DONE;
 
 const DRAFT: [&str; 3] = [
     "I17_08765:2:123:61541:01763#9",
@@ -145,8 +144,8 @@ fn both_documents_names_written_and_read_back() {
         let (written, mut memory) = write_whole(&input(names), names.len());
         assert_eq!(written.0, 0);
         let count = names.len() as u32;
-        let answer = memory.run(&Second, &Call::ReadBlock { count });
-        assert_eq!(unpack(answer), (DONE, count));
+        let answer = memory.ask(&Call::ReadBlock { count });
+        assert_eq!(answer, (DONE, count));
         assert_eq!(kept(&memory), names);
     }
 }
@@ -157,8 +156,8 @@ fn the_paper_s_example_in_all_tables() {
     let names = ["run7:0098", "run7:0099", "run7:0100", "run7:0100"];
     let (written, mut memory) = write_whole(&input(&names), 4);
     assert_eq!(written, (0, 51));
-    let answer = memory.run(&Second, &Call::ReadBlock { count: 4 });
-    assert_eq!(unpack(answer), (DONE, 4));
+    let answer = memory.ask(&Call::ReadBlock { count: 4 });
+    assert_eq!(answer, (DONE, 4));
     assert_eq!(memory.state_numbers(), [4, 4, 40, 12]);
     let entry = |number| memory.entry(number).numbers();
     assert_eq!(entry(0), [0, 9, 0, 4, 0]);
@@ -191,8 +190,8 @@ fn rows_of_empty_strings() {
         .end();
     let block = script.diff(1).matched().char(b'y').matched().end().packed();
     let mut memory = Memory::new(&block, Room::ample(2));
-    let answer = memory.run(&Second, &Call::ReadBlock { count: 2 });
-    assert_eq!(unpack(answer), (DONE, 2));
+    let answer = memory.ask(&Call::ReadBlock { count: 2 });
+    assert_eq!(answer, (DONE, 2));
     assert_eq!(memory.row(0), [1, 0, 0, 0, 0]);
     assert_eq!(memory.row(2), [1, 0, 0, 1, 0]);
     assert_eq!(memory.row(3), [1, 0, 0, 2, 0]);

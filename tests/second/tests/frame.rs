@@ -1,17 +1,16 @@
 //! What calls leave alone, and claims in any order, over the generated families.
 
-use second::calls::Second;
 use second::cases::blocks::planned;
 use second::cases::random::Random;
 use second::cases::{make, FAMILIES};
 use second::memory::{Call, Memory, Room};
-use second::refusal::{unpack, DONE};
+use second::refusal::DONE;
 
 /// Runs a call and judges what it did to memory by its answer alone.
 fn assert_frame(memory: &mut Memory, call: &Call) {
     let before = memory.clone();
-    let answer = memory.run(&Second, call);
-    match (call, unpack(answer)) {
+    let answer = memory.ask(call);
+    match (call, answer) {
         (Call::ReadBlock { count }, (2..=10 | DONE, _)) => {
             let steps = in_steps(before, *count);
             assert!(steps.0 == answer && steps.1 == *memory);
@@ -28,10 +27,10 @@ fn assert_frame(memory: &mut Memory, call: &Call) {
 }
 
 /// A whole read told as opening and single reads: the last answer and the memory.
-fn in_steps(mut memory: Memory, count: u32) -> (u64, Memory) {
-    let mut answer = memory.run(&Second, &Call::Open { count });
-    while unpack(answer).0 == 0 {
-        answer = memory.run(&Second, &Call::Read);
+fn in_steps(mut memory: Memory, count: u32) -> ((u32, u32), Memory) {
+    let mut answer = memory.ask(&Call::Open { count });
+    while answer.0 == 0 {
+        answer = memory.ask(&Call::Read);
     }
     (answer, memory)
 }
@@ -112,13 +111,13 @@ fn a_read_refused_for_room_goes_on_with_more() {
             },
         );
         let count = planned.block.count;
-        memory.run(&Second, &Call::Open { count });
+        memory.ask(&Call::Open { count });
         for number in 0..count {
             for _ in 0..2 {
-                assert_eq!(unpack(memory.run(&Second, &Call::Read)), (9, number));
+                assert_eq!(memory.ask(&Call::Read), (9, number));
             }
             grow(&mut memory, planned.names[number as usize].len() + 1);
-            assert_eq!(unpack(memory.run(&Second, &Call::Read)), (0, number));
+            assert_eq!(memory.ask(&Call::Read), (0, number));
         }
         assert_eq!(memory.kept_names(), planned.names);
     }
@@ -139,12 +138,12 @@ fn claims_between_reads() {
         let planned = planned(&mut random, 8);
         let count = planned.block.count;
         let mut memory = Memory::new(&planned.block, Room::ample(count as usize));
-        memory.run(&Second, &Call::Open { count });
+        memory.ask(&Call::Open { count });
         for kept in 0..=count {
             for number in 0..count {
                 assert_claims(&mut memory, kept, number, &planned.names[number as usize]);
             }
-            memory.run(&Second, &Call::Read);
+            memory.ask(&Call::Read);
         }
     }
 }
@@ -152,7 +151,7 @@ fn claims_between_reads() {
 fn assert_claims(memory: &mut Memory, kept: u32, number: u32, name: &[u8]) {
     let mut answer = |claimed: &[u8]| {
         let claimed = claimed.to_vec();
-        unpack(memory.run(&Second, &Call::Claim { number, claimed }))
+        memory.ask(&Call::Claim { number, claimed })
     };
     if number >= kept {
         return assert_eq!(answer(name), (11, number));

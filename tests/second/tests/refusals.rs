@@ -1,12 +1,11 @@
 //! Each refusal of document 01 where its words apply, with the name that goes with it, and
 //! which of two comes first.
 
-use second::calls::Second;
 use second::cases::script::{Packed, Script};
 use second::cases::{read_some, read_whole, write_whole};
 use second::directory::{place, Stream};
 use second::memory::{Call, Memory};
-use second::refusal::{unpack, DONE, NO_NAME};
+use second::refusal::{DONE, NO_NAME};
 
 /// What a script's block is refused with, and the name.
 fn refused(script: &Script) -> (u32, u32) {
@@ -16,7 +15,7 @@ fn refused(script: &Script) -> (u32, u32) {
 /// The answer of one more read; a refused one alters nothing.
 fn next_read(memory: &mut Memory) -> (u32, u32) {
     let before = memory.clone();
-    let answer = unpack(memory.run(&Second, &Call::Read));
+    let answer = memory.ask(&Call::Read);
     if answer.0 != 0 {
         assert!(*memory == before, "{:?}", before.difference(memory));
     }
@@ -25,11 +24,7 @@ fn next_read(memory: &mut Memory) -> (u32, u32) {
 
 fn claim(memory: &Memory, number: u32, claimed: &[u8]) -> (u32, u32) {
     let claimed = claimed.to_vec();
-    unpack(
-        memory
-            .clone()
-            .run(&Second, &Call::Claim { number, claimed }),
-    )
+    memory.clone().ask(&Call::Claim { number, claimed })
 }
 
 fn name_0() -> Script {
@@ -64,8 +59,8 @@ fn one_for_lengths_starts_and_ends() {
         // 1 comes before 13: the counts are bad as well.
         memory.state.get_mut()[1] = u32::MAX;
         assert_eq!(next_read(&mut memory), (1, NO_NAME));
-        let opened = memory.run(&Second, &Call::Open { count: 65_537 });
-        assert_eq!(unpack(opened), (1, NO_NAME));
+        let opened = memory.ask(&Call::Open { count: 65_537 });
+        assert_eq!(opened, (1, NO_NAME));
     }
 }
 
@@ -254,8 +249,8 @@ fn twelve_for_counts() {
     block.count = 65_537;
     assert_eq!(read_whole(&block).0, (12, NO_NAME));
     let mut memory = read_some(&Script::new().packed(), 0);
-    let opened = memory.run(&Second, &Call::Open { count: 65_536 });
-    assert_eq!(unpack(opened), (0, 0));
+    let opened = memory.ask(&Call::Open { count: 65_536 });
+    assert_eq!(opened, (0, 0));
     assert_eq!(memory.state_numbers(), [65_536, 0, 0, 0]);
 }
 
@@ -477,7 +472,7 @@ fn writing_in_its_order() {
         memory.directory.resize(directory, 0);
         let before = memory.clone();
         let input = input.to_vec();
-        let answer = unpack(memory.run(&Second, &Call::Write { input }));
+        let answer = memory.ask(&Call::Write { input });
         assert!(answer.0 == 0 || memory == before);
         answer
     };
@@ -514,7 +509,7 @@ fn what_a_refused_whole_read_leaves() {
     assert!(memory == read_some(&block, 1));
     assert_eq!(memory.state_numbers(), [2, 1, 3, 1]);
     let mut refused = memory.clone();
-    let again = refused.run(&Second, &Call::ReadBlock { count: 65_537 });
-    assert_eq!(unpack(again), (12, NO_NAME));
+    let again = refused.ask(&Call::ReadBlock { count: 65_537 });
+    assert_eq!(again, (12, NO_NAME));
     assert!(refused == memory);
 }

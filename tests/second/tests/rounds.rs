@@ -1,13 +1,12 @@
 //! Generated blocks and names: what is read is what was meant, what is written reads back.
 
-use second::calls::Second;
 use second::cases::blocks::planned;
 use second::cases::names::{ended, good};
 use second::cases::random::Random;
 use second::cases::{large, read_whole, write_whole};
 use second::directory::MOST_NAMES;
 use second::memory::{Call, Memory};
-use second::refusal::{unpack, DONE};
+use second::refusal::DONE;
 use std::time::Instant;
 
 /// Every kept name is its rows printed end to end, and leans on a lower number.
@@ -75,8 +74,8 @@ fn written_names_read_back() {
         assert_eq!(written, (0, memory.total_numbers()[1]), "seed {seed}");
         assert_eq!(memory.total_numbers()[0], count, "seed {seed}");
         assert_laid_out(&memory);
-        let answer = memory.run(&Second, &Call::ReadBlock { count });
-        assert_eq!(unpack(answer), (DONE, count), "seed {seed}");
+        let answer = memory.ask(&Call::ReadBlock { count });
+        assert_eq!(answer, (DONE, count), "seed {seed}");
         assert_eq!(memory.kept_names(), names, "seed {seed}");
         assert_kept_well(&memory);
         rests += (0..count)
@@ -107,17 +106,13 @@ fn the_largest_blocks_in_a_few_seconds() {
     let mut whole = 0;
     for case in large::cases() {
         let mut memory = case.memory;
-        let answers: Vec<u64> = case
-            .calls
-            .iter()
-            .map(|call| memory.run(&Second, call))
-            .collect();
+        let answers: Vec<(u32, u32)> = case.calls.iter().map(|call| memory.ask(call)).collect();
         let Call::Write { input } = &case.calls[0] else {
             panic!("a large case begins with its writing")
         };
-        if unpack(answers[1]) == (DONE, MOST_NAMES) {
+        if answers[1] == (DONE, MOST_NAMES) {
             assert_eq!(memory.text.get(), input);
-            assert_eq!(unpack(answers[4]), (0, 1));
+            assert_eq!(answers[4], (0, 1));
             whole += 1;
         }
     }

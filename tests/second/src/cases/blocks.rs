@@ -2,6 +2,7 @@
 
 use super::random::Random;
 use super::script::{Packed, Script};
+use crate::directory::Stream;
 
 /// A block and the names it must give.
 pub struct Planned {
@@ -253,14 +254,32 @@ fn wild_token(random: &mut Random, script: Script) -> Script {
         1 => script.char(random.byte()),
         2 => script.string(&[random.byte()]),
         3 => script.digits0(number, random.byte()),
-        4 => script.kind(random.pick(&[1, 2, 4, 7, 11, 12, 13])),
+        4 => cut_short(random, script),
         5 => script.string(&vec![b'q'; random.between(240, 300)]),
-        6..=14 => script.digits(number),
+        6 => {
+            // Around the longest name, with a number that may not fit its width either.
+            let long = script.string(&vec![b'q'; random.between(245, 254)]);
+            long.digits0(number, random.below(4) as u8)
+        }
+        7..=14 => script.digits(number),
         15..=24 => script.digits0(number, 10),
         25..=32 => script.string(&text(random, 20)),
         33..=40 => script.char(random.allowed()),
         41..=45 => script.ddelta(random.byte()),
         46..=50 => script.ddelta0(random.byte()),
         _ => script.matched(),
+    }
+}
+
+/// A type without its value, or with a part of it.
+fn cut_short(random: &mut Random, script: Script) -> Script {
+    match random.below(4) {
+        0 => {
+            let width = random.pick(&[0, 1, 255]);
+            script.kind(4).value(Stream::Dzlen, &[width])
+        }
+        1 => script.kind(4).value(Stream::Digits0, &[1, 0, 0, 0]),
+        2 => script.kind(7).value(Stream::Digits, &[1, 0, 0]),
+        _ => script.kind(random.pick(&[1, 2, 4, 7, 11, 12, 13])),
     }
 }

@@ -12,7 +12,6 @@ pub mod script;
 use crate::calls::{Calls, Second};
 use crate::compare::{compare, Case, Tally};
 use crate::memory::{Call, Memory, Room};
-use crate::refusal::unpack;
 use blocks::{planned, wild, Planned};
 use random::Random;
 
@@ -283,17 +282,16 @@ fn spoilt(random: &mut Random) -> Case {
 pub fn read_whole(block: &script::Packed) -> ((u32, u32), Memory) {
     let mut memory = Memory::new(block, Room::ample(block.count as usize));
     let count = block.count;
-    let answer = memory.run(&Second, &Call::ReadBlock { count });
-    (unpack(answer), memory)
+    (memory.ask(&Call::ReadBlock { count }), memory)
 }
 
 /// A block opened and read up to a number of names, with ample room.
 pub fn read_some(block: &script::Packed, names: u32) -> Memory {
     let mut memory = Memory::new(block, Room::ample(block.count as usize));
     let count = block.count;
-    memory.run(&Second, &Call::Open { count });
+    memory.ask(&Call::Open { count });
     for _ in 0..names {
-        memory.run(&Second, &Call::Read);
+        memory.ask(&Call::Read);
     }
     memory
 }
@@ -302,6 +300,5 @@ pub fn read_some(block: &script::Packed, names: u32) -> Memory {
 pub fn write_whole(input: &[u8], names: usize) -> ((u32, u32), Memory) {
     let mut memory = Memory::to_write(8 * input.len() + 64, names);
     let input = input.to_vec();
-    let answer = memory.run(&Second, &Call::Write { input });
-    (unpack(answer), memory)
+    (memory.ask(&Call::Write { input }), memory)
 }
