@@ -1,18 +1,18 @@
 -- Which memory a step depends on: the ten cursors of its position, the earlier name's rows, and the kept text below where their texts end.
-use Prim.Native.Nat.{ℕ, _+_, _-_, _*_, _≤_, _<_}
-use mathlib.Core.Path.{_≡_, refl, sym, ap, _∙_}
-use mathlib.Core.Bool.{Bool, true, false}
+use Prim.Native.Nat.{ℕ, _+_, _-_, _*_, _≤_}
+use mathlib.Core.Path.{_≡_, refl, ap, _∙_}
+use mathlib.Core.Bool.{true}
 use mathlib.Core.List.{List}
 use native.Mathlib.Omega.{arith}
 use borrow.Author.Tests.{leb-true, eqb-true}
 use lib.Dec.{leb, eqb}
-use lib.ListN.{length, take, getD}
+use lib.ListN.{length, take}
 use Rattle.base.specs.Choice.{pick, both}
 use Rattle.base.proofs.Choice.{both-true}
 use Rattle.spans.specs.declared.Cursor.{Cursor}
 use Rattle.spans.specs.declared.NextByte.{NextByte}
 use Rattle.spans.specs.declared.NextByte.the-variants as byte
-use Rattle.block.specs.Block.{spanOf, endOf, cursorOf}
+use Rattle.block.specs.Block.{spanOf, cursorOf}
 use Rattle.tokens.specs.declared.TokenType.{TokenType}
 use Rattle.tokens.specs.declared.TokenType.the-variants as type
 use Rattle.tokens.specs.declared.Token.{Token}
@@ -23,10 +23,9 @@ use Rattle.kept.specs.declared.Row.{Row}
 use Rattle.kept.specs.Tables.{rowAt}
 use Rattle.kept.specs.Inside.{RowInside}
 use Rattle.kept.proofs.Frame.{Alike, row-alike}
-use Rattle.steps.specs.declared.Step.{Step}
 use Rattle.steps.specs.declared.Step.the-variants.{Got, End, Refused}
 use Rattle.steps.specs.Source.{Source, source, Earlier, earlier, byteIn, fourIn, textIn}
-use Rattle.steps.specs.Steps.{stringStep, charStep, digitsStep, digits0Step, deltaStep, delta0Step, tokenOf, hasRow, rowHere, hasKind, deltaAt, delta0At, matchAt, valueStep, barred, typedStep, stepAt}
+use Rattle.steps.specs.Steps.{stringStep, charStep, digitsStep, tokenOf, hasRow, rowHere, hasKind, deltaAt, delta0At, matchAt, valueStep, barred, typedStep, stepAt}
 use Rattle.steps.specs.Sound.{Rows}
 use Rattle.steps.proofs.Picks.{pick-same}
 

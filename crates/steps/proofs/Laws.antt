@@ -1,14 +1,14 @@
 -- What a step that gave a token tells: where the token lies, how large its numbers are, and where its cursor stands.
 use Prim.Native.Nat.{ℕ, _+_, _-_, _*_, _^_, _≤_, _<_}
-use mathlib.Core.Path.{_≡_, refl, sym, ap, _∙_, subst}
-use mathlib.Core.Bool.{Bool, true, false}
+use mathlib.Core.Path.{_≡_, refl, sym, _∙_, subst}
+use mathlib.Core.Bool.{true, false}
 use mathlib.Core.List.{List}
 use mathlib.Core.Logic.{⊎-elim}
 use native.Mathlib.Omega.{arith}
 use borrow.Author.Tests.{leb-true, ltb-true, eqb-true, eq-eqb}
 use lib.Dec.{leb, ltb, eqb}
 use lib.ListN.{length, getD}
-use Rattle.base.specs.Choice.{pick, both}
+use Rattle.base.specs.Choice.{pick}
 use Rattle.base.proofs.Choice.{pick-true, pick-false, both-true, both-of, by-test, never}
 use Rattle.base.proofs.Numbers.{lt-or-ge}
 use Rattle.digits.specs.Digits.{fitsWidth}
@@ -20,6 +20,7 @@ use Rattle.spans.specs.declared.NextText.{NextText}
 use Rattle.spans.specs.Spans.{byteAt, four, fourAt, textEnd, textAt}
 use Rattle.spans.proofs.Laws.{end-found, byte-found}
 use Rattle.block.specs.Block.{spanOf, endOf, cursorOf}
+use Rattle.block.specs.declared.State.{State}
 use Rattle.block.specs.Open.{Open}
 use Rattle.block.proofs.Laws.{span-below}
 use Rattle.tokens.specs.declared.TokenType.{TokenType}
@@ -29,8 +30,9 @@ use Rattle.tokens.specs.declared.Token.the-variants.{String, Char, Digits, Digi
 use Rattle.tokens.specs.Types.{typeOf}
 use Rattle.tokens.specs.Inside.{Inside, KeptBelow}
 use Rattle.kept.specs.declared.Row.{Row}
-use Rattle.kept.specs.Tables.{Kept, entryAt, rowAt}
-use Rattle.kept.specs.Inside.{RowInside, Counted, Earlier as Fits}
+use Rattle.kept.specs.declared.Entry.{Entry}
+use Rattle.kept.specs.Tables.{rowAt}
+use Rattle.kept.specs.Inside.{RowInside, EntryInside}
 use Rattle.steps.specs.declared.Step.{Step}
 use Rattle.steps.specs.declared.Step.the-variants.{Got, End, Refused}
 use Rattle.steps.specs.Source.{Source, Earlier, earlier, byteIn, fourIn, textIn}
@@ -341,9 +343,8 @@ pub rows-none : (used : ℕ) (text rows : List ℕ) → used ≤ length text →
 rows-none used text rows h = record { table = omega arith; most = omega arith; room = h; each = λ j a b. absurd (omega arith) }
 
 -- an earlier name that was judged
-pub rows-judged : (m : Kept) (i : ℕ) → Counted m → Fits m i
-    → Rows (m .state .text) (earlier (m .text) (m .rows) (entryAt (m .names) i .first) (entryAt (m .names) i .rows))
-rows-judged m i c f =
-    let a : entryAt (m .names) i .first + entryAt (m .names) i .rows ≤ m .state .rows = f .rows .ends in
-    let b : 5 * m .state .rows ≤ length (m .rows) = c .rowsUsed in
-    record { table = omega arith; most = f .rows .most; room = c .used; each = f .each }
+pub rows-judged : (k : State) (text rows : List ℕ) (x : Entry) → 5 * k .rows ≤ length rows → k .text ≤ length text → EntryInside k rows x
+    → Rows (k .text) (earlier text rows (x .first) (x .rows))
+rows-judged k text rows x h l f =
+    let a : x .first + x .rows ≤ k .rows = f .rows .ends in
+    record { table = omega arith; most = f .rows .most; room = l; each = f .each }

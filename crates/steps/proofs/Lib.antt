@@ -2,3 +2,4 @@ pub mod Picks
 pub mod Ways
 pub mod Laws
 pub mod Frame
+pub mod Forward

@@ -17,7 +17,7 @@ use Rattle.tokens.specs.declared.Token.the-variants.{String, Char, Digits, Digi
 use Rattle.kept.specs.declared.Row.{Row}
 use Rattle.kept.specs.Tables.{rowAt}
 use Rattle.steps.specs.declared.Step.{Step}
-use Rattle.steps.specs.declared.Step.the-variants.{Got, End, Refused}
+use Rattle.steps.specs.declared.Step.the-variants.{Got, Refused}
 use Rattle.steps.specs.Source.{Source, Earlier, byteIn}
 use Rattle.steps.specs.Steps.{paddedStep, deltaStep, delta0Step, tokenOf, hasRow, rowHere, hasKind, deltaAt, delta0At, matchAt, valueStep, barred, typedStep}
 

@@ -1,20 +1,58 @@
 -- What is known of a resolved token: how many bytes it prints, its row, and which memory its bytes depend on.
-use Prim.Native.Nat.{ℕ, _+_, _-_, _≤_, _<_}
-use mathlib.Core.Path.{_≡_, refl, sym, ap, _∙_}
+use Prim.Native.Nat.{ℕ, _≤_}
+use mathlib.Core.Path.{_≡_, refl}
 use mathlib.Core.Bool.{Bool, true, false}
-use mathlib.Core.List.{List, [], _∷_}
+use mathlib.Core.List.{List}
 use mathlib.Core.Logic.{_⊎_, inl, inr}
 use native.Mathlib.Omega.{arith}
 use lib.ListN.{length, take}
 use Rattle.base.specs.Choice.{pick}
 use Rattle.base.specs.Memory.{part}
 use Rattle.base.proofs.Memory.{length-part}
-use Rattle.digits.proofs.Laws.{length-padded, length-printed, fits-count}
+use Rattle.digits.proofs.Laws.{length-padded}
 use Rattle.tokens.specs.declared.Token.{Token}
 use Rattle.tokens.specs.declared.Token.the-variants.{String, Char, Digits, Digits0}
+use Rattle.tokens.specs.declared.TokenType.the-variants as type
+use Rattle.tokens.specs.Types.{typeOf}
 use Rattle.tokens.specs.Tokens.{bytesOf, kindOf, lengthOf, rowOf}
 use Rattle.tokens.specs.Inside.{Inside, KeptBelow}
 use Rattle.tokens.proofs.Texts.{same-part}
+
+-- the numbers of the table
+
+pub type-string : typeOf 1 ≡ type.String
+unfolding typeOf pick
+type-string = refl
+
+pub type-char : typeOf 2 ≡ type.Char
+unfolding typeOf pick
+type-char = refl
+
+pub type-digits0 : typeOf 4 ≡ type.Digits0
+unfolding typeOf pick
+type-digits0 = refl
+
+pub type-digits : typeOf 7 ≡ type.Digits
+unfolding typeOf pick
+type-digits = refl
+
+pub type-delta : typeOf 11 ≡ type.Delta
+unfolding typeOf pick
+type-delta = refl
+
+pub type-delta0 : typeOf 12 ≡ type.Delta0
+unfolding typeOf pick
+type-delta0 = refl
+
+pub type-match : typeOf 13 ≡ type.Match
+unfolding typeOf pick
+type-match = refl
+
+pub type-end : typeOf 14 ≡ type.End
+unfolding typeOf pick
+type-end = refl
+
+-- a resolved token
 
 pub length-bytes : (bytes text : List ℕ) (t : Token) → Inside bytes text t → length (bytesOf bytes text t) ≡ lengthOf t
 unfolding bytesOf lengthOf

@@ -1,12 +1,11 @@
 -- Two memories that are the same up to a place: what stands below it is the same in both.
 use Prim.Native.Nat.{ℕ, zero, suc, _+_, _-_, _≤_, _<_}
-use mathlib.Core.Path.{_≡_, refl, sym, ap, _∙_}
+use mathlib.Core.Path.{_≡_, sym, ap, _∙_}
 use mathlib.Core.List.{List, [], _∷_, _++_}
 use native.Mathlib.Omega.{arith}
 use lib.ListN.{length, take, drop, getD, length-append}
-use lib.Seq.{take-take, take-nil, take-at, take-append-le, getD-take, length-take-le, ext-getD}
+use lib.Seq.{take-take, take-nil, take-append-le, getD-take, length-take-le, ext-getD}
 use Rattle.base.specs.Memory.{part, written}
-use Rattle.base.proofs.Numbers.{lt-or-ge}
 
 front : (m n u : ℕ) (l : List ℕ) → m + n ≤ u → take n (drop m (take u l)) ≡ take n (drop m l)
 front zero n u l h = take-take n u l (omega arith)

@@ -1,3 +1,5 @@
+use denote.Ref.{now}
+use Rattle.steps.specs.Source.{source, earlier}
 use mathlib.Core.Path.{sym, _∙_}
 use Rattle.steps.proofs.Ways.{typed-barred, typed-value}
 use Rattle.steps.specs.Steps.{typedStep}
@@ -28,7 +30,11 @@ returns c =
 returns-2 : tie.Need-returns-2
 returns-2 c =
     let t = c .before .before .before in
-    rw (t .before .before .found .given .1) (typed-value _ _ _ _ _ (t .type-of .ensures) (sym (c .before .before .barred .ensures) ∙ c .before .if1 .left) (c .value-step .ensures))
+    let a = t .before .before .before .before .before .before .before .before .before .args in
+    let s = source (now (a .bytes)) (now (a .dir)) (now (a .cursors)) in
+    let e = earlier (now (a .text)) (now (a .rows)) (a .first) (a .count) in
+    rw (t .before .before .found .given .1)
+    (typed-value s e (a .p .0) _ _ (t .type-of .ensures) (sym (c .before .before .barred .ensures) ∙ c .before .if1 .left) (c .value-step .ensures))
 
 returns-3 : tie.Need-returns-3
 unfolding typedStep

@@ -1,5 +1,4 @@
 use Rattle.tokens.specs.Tokens.{bytesOf, lengthOf}
-use Rattle.tokens.specs.Inside.{Inside, KeptBelow}
 use borrow.Author.Needs.{needs}
 use Rattle.tokens.proofs.put.Statement.{statement}
 use Rattle.tokens.proofs.put.Tie as tie

@@ -1,4 +1,3 @@
-use native.Mathlib.Omega.{arith}
 use Rattle.base.specs.Choice.{pick}
 use borrow.Author.Needs.{needs}
 use Rattle.tokens.proofs.put_text.Statement.{statement}

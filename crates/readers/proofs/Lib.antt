@@ -1,0 +1,4 @@
+pub mod Asked
+pub mod Laws
+pub mod Made
+pub mod Moved

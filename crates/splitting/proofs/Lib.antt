@@ -1,0 +1,4 @@
+pub mod Cases
+pub mod Runs
+pub mod Equal
+pub mod Pieces

@@ -1,0 +1,37 @@
+use denote.Ref.{now}
+use native.Mathlib.Omega.{arith}
+use mathlib.Core.Path.{_≡_, refl, sym, ap, _∙_}
+use borrow.Author.Tests.{eq-eqb, ne-eqb, lt-ltb, le-ltb}
+use Rattle.base.proofs.Choice.{took, left}
+use Rattle.splitting.proofs.Pieces.{piece-within}
+use Rattle.splitting.specs.declared.Choice.the-variants.{Itself}
+use Rattle.splitting.specs.Choices.{choiceAt, Within}
+use borrow.Author.Needs.{needs}
+use Rattle.splitting.proofs.choice_at.Statement.{statement}
+use Rattle.splitting.proofs.choice_at.Tie as tie
+
+piece-at-requires : tie.Need-piece-at-requires
+piece-at-requires c κs = search needs
+
+returns : tie.Need-returns
+unfolding choiceAt
+returns c = left _ _ (le-ltb _ _ (c .if1 .taken)) (ap Itself (c .before .piece-at .ensures))
+
+piece-at-requires-2 : tie.Need-piece-at-requires-2
+piece-at-requires-2 c κs = search needs
+
+lean-requires : tie.Need-lean-requires
+lean-requires c κs =
+    let s = c .before .before .before .before .before in
+    let a = s .args in (
+      rw (c .before .before .piece-at .ensures) (piece-within (now (a .name)) (a .p) (a .a) (s .pre .1)),
+      rw (c .piece-at2 .ensures) (piece-within (now (a .before)) (a .p) (a .b) (c .before .if1 .left)),
+    )
+
+returns-2 : tie.Need-returns-2
+unfolding choiceAt
+returns-2 c = took _ _ (lt-ltb _ _ (c .before .before .if1 .left)) (rw (← c .before .before .before .piece-at .ensures, ← c .before .piece-at2 .ensures) (c .lean .ensures))
+
+pub choice-at-spec : {M : Type 1} → statement M
+choice-at-spec =
+    tie.close (tie.spec piece-at-requires returns piece-at-requires-2 lean-requires returns-2)

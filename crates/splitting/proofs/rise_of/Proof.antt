@@ -1,0 +1,29 @@
+use mathlib.Core.Path.{_≡_, refl, sym, ap, _∙_}
+use borrow.Author.Tests.{eq-eqb, ne-eqb, lt-ltb, le-ltb}
+use Rattle.base.proofs.Choice.{took, left}
+use Rattle.splitting.specs.Choices.{riseOf}
+use borrow.Author.Needs.{needs}
+use Rattle.splitting.proofs.rise_of.Statement.{statement}
+use Rattle.splitting.proofs.rise_of.Tie as tie
+
+returns : tie.Need-returns
+unfolding riseOf
+returns c = took _ _ (eq-eqb _ _ (c .if1 .taken)) refl
+
+returns-2 : tie.Need-returns-2
+unfolding riseOf
+returns-2 c = left _ _ (ne-eqb _ _ (c .before .if1 .left)) (took _ _ (lt-ltb _ _ (c .if2 .taken)) refl)
+
+returns-3 : tie.Need-returns-3
+unfolding riseOf
+returns-3 c = left _ _ (ne-eqb _ _ (c .before .before .if1 .left)) (left _ _ (le-ltb _ _ (c .before .if2 .left)) (took _ _ (lt-ltb _ _ (c .if3 .taken)) refl))
+
+cast-t5 : tie.Need-cast-t5
+cast-t5 c = search needs
+
+returns-4 : tie.Need-returns-4
+unfolding riseOf
+returns-4 c = left _ _ (ne-eqb _ _ (c .before .before .if1 .left)) (left _ _ (le-ltb _ _ (c .before .if2 .left)) (left _ _ (le-ltb _ _ (c .if3 .left)) refl))
+
+pub rise-of-spec : {M : Type 1} → statement M
+rise-of-spec = tie.close (tie.spec returns returns-2 returns-3 cast-t5 returns-4)

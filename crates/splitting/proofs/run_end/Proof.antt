@@ -1,0 +1,63 @@
+use borrow.Author.Needs.{needs}
+use native.Mathlib.Omega.{arith}
+use Prim.Native.Nat.{ℕ, _+_, _-_, _≤_}
+use mathlib.Core.Path.{_≡_, refl, sym, _∙_}
+use denote.Ref.{now}
+use Rattle.splitting.specs.Split.{runEnd}
+use Rattle.splitting.proofs.Runs.{run-here, run-next, run-out}
+use Rattle.splitting.proofs.run_end.Statement.{statement}
+use Rattle.splitting.proofs.run_end.Tie as tie
+
+abbrev Inv-loop : tie.InvT-loop
+Inv-loop table name class at to i₀ i = (at ≤ i) × ((i ≤ to) × (runEnd name class i (to - i) ≡ runEnd name class at (to - at)))
+
+abbrev μ-loop : tie.MeasureT-loop
+μ-loop table name class at to i₀ i = to - i
+
+loop-holds : tie.Need-loop-holds Inv-loop μ-loop
+loop-holds c = (search needs, (search needs, refl))
+
+shared-slice-read-run-class : tie.Need-shared-slice-read-run-class Inv-loop μ-loop
+shared-slice-read-run-class c = search needs
+
+run-class-requires : tie.Need-run-class-requires Inv-loop μ-loop
+run-class-requires c κs = c .before .before .before .before .pre .0
+
+returns : tie.Need-returns Inv-loop μ-loop
+returns c =
+    let l = c .before .before .before .before .loop in
+    let a = c .before .before .before .before .before .before .args in
+    sym (run-here (now (a .name)) (a .class) (l .i) (a .to) (omega arith) (λ e. c .if1 .taken (c .before .run-class .ensures ∙ e))) ∙ l .inv .1 .1
+
+add-i : tie.Need-add-i Inv-loop μ-loop
+add-i c = search needs
+
+loop-less : tie.Need-loop-less Inv-loop μ-loop
+loop-less c = search needs
+
+loop-again : tie.Need-loop-again Inv-loop μ-loop
+loop-again c =
+    let l = c .before .before .before .before .loop in
+    let a = c .before .before .before .before .before .before .args in
+    (search needs, (search needs, run-next (now (a .name)) (a .class) (l .i) (a .to) (omega arith) (sym (c .before .run-class .ensures) ∙ c .if1 .left) ∙ l .inv .1 .1))
+
+returns-2 : tie.Need-returns-2 Inv-loop μ-loop
+returns-2 c =
+    let l = c .before .loop in
+    let a = c .before .before .before .args in
+    sym (run-out (now (a .name)) (a .class) (l .i) (a .to) (omega arith)) ∙ l .inv .1 .1
+
+pub run-end-spec : {M : Type 1} → statement M
+run-end-spec =
+    tie.close
+    (tie.spec
+    Inv-loop
+    μ-loop
+    loop-holds
+    shared-slice-read-run-class
+    run-class-requires
+    returns
+    add-i
+    loop-less
+    loop-again
+    returns-2)
