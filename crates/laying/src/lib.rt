@@ -11,6 +11,7 @@ ghost use Rattle.spans.specs.Spans.{fourBytes};
 ghost use Rattle.block.specs.Block.{endOf};
 ghost use Rattle.laying.specs.Puts.{put};
 ghost use Rattle.laying.specs.Passes.{counts, fills, moved, world, stepOf, Room, cleared, offsetIn, placesOf};
+use block::Block;
 
 // What a pass over the puts does: it finds the total, counts each span's size, or fills.
 pub enum Pass {
@@ -173,7 +174,7 @@ pub fn lay_out(directory: &mut [u32])
 {
     let mut at: u32 = 0;
     let mut i: usize = 0;
-    while i < 1290 {
+    while i < Block::SPANS {
         let size = directory[2 * i + 1];
         directory[2 * i] = at;
         directory[2 * i + 1] = at;

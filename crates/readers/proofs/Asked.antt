@@ -22,7 +22,7 @@ use denote.RattleType.{RattleType, owns}
 use denote.Laws.{Is, shows}
 use denote.Builtin.{u8, SliceRefOf}
 use denote.Ref.{now}
-use denote.Signature.{Signature, plain, namedLft}
+use denote.Signature.{plain, namedLft}
 use denote.Slice.{sliceVal, sliceTy, ShrSlice}
 use denote.Steps.{peeks, heard, nothing}
 use denote.Struct.Declared.{Declared}

@@ -5,7 +5,6 @@ use mathlib.Core.List.{List}
 use mathlib.Core.Logic.{⊎-elim}
 use native.Mathlib.Omega.{arith}
 use native.Mathlib.Nat.{add-zero, add-assoc}
-use borrow.Author.Tests.{eqb-true, eqb-false, eq-eqb, ne-eqb}
 use lib.Dec.{eqb}
 use lib.ListN.{length, getD}
 use Rattle.base.specs.Memory.{part}
@@ -21,8 +20,8 @@ use Rattle.spans.specs.declared.NextText.{NextText}
 use Rattle.spans.specs.declared.NextText.the-variants.{Bytes, Unended}
 use Rattle.spans.specs.Spans.{cursor, byteAt, four, fourAt, zeroFrom, textEnd, textAt}
 use Rattle.spans.proofs.Laws.{byte-short, byte-value, four-short, four-value, text-found, text-none}
-use Rattle.readers.specs.Readers.{reach, byteOf, fourOf, textOf}
-use Rattle.readers.proofs.Laws.{reach-all, byte-inside, four-inside, text-inside}
+use Rattle.readers.specs.Readers.{leftEnd, byteOf, fourOf, textOf}
+use Rattle.readers.proofs.Laws.{left-all, byte-inside, four-inside, text-inside}
 
 -- an answer with its cursors moved
 abbrev pub byteMoved : ℕ → NextByte → NextByte
@@ -56,9 +55,9 @@ module _ (bytes : List ℕ) (at end : ℕ) (low : at ≤ end) (high : end ≤ le
   abbrev left : List ℕ
   left = part bytes at end
 
-  -- all of the part is reached
-  reach-part : reach left ≡ end - at
-  reach-part = let l = length-part bytes at end low high in reach-all left (omega arith) ∙ l
+  -- the end of the part
+  left-part : leftEnd left ≡ end - at
+  left-part = let l = length-part bytes at end low high in left-all left (omega arith) ∙ l
 
   same : (j : ℕ) → j < end - at → getD left j 0 ≡ getD bytes (at + j) 0
   same j h = getD-part bytes at end j h
@@ -66,7 +65,7 @@ module _ (bytes : List ℕ) (at end : ℕ) (low : at ≤ end) (high : end ≤ le
   pub byte-part : byteMoved at (byteOf left) ≡ byteAt bytes at end
   unfolding byteOf
   byte-part =
-      rw reach-part
+      rw left-part
       (⊎-elim
       (λ (h : end < at + 1). ap (byteMoved at) (sym (byte-short left 0 (end - at) (omega arith))) ∙ byte-short bytes at end h)
       (λ (h : at + 1 ≤ end).
@@ -80,7 +79,7 @@ module _ (bytes : List ℕ) (at end : ℕ) (low : at ≤ end) (high : end ≤ le
   pub four-part : fourMoved at (fourOf left) ≡ fourAt bytes at end
   unfolding fourOf
   four-part =
-      rw reach-part
+      rw left-part
       (⊎-elim
       (λ (h : end < at + 4). ap (fourMoved at) (sym (four-short left 0 (end - at) (omega arith))) ∙ four-short bytes at end h)
       (λ (h : at + 4 ≤ end). ap (fourMoved at) (sym (four-value left 0 (end - at) (omega arith) refl)) ∙ four-value bytes at end h (four-alike h))
@@ -95,7 +94,7 @@ module _ (bytes : List ℕ) (at end : ℕ) (low : at ≤ end) (high : end ≤ le
   pub text-part : textMoved at (textOf left) ≡ textAt bytes at end
   unfolding textOf
   text-part =
-      rw reach-part
+      rw left-part
       (⊎-elim
       (λ (h : textEnd left 0 (end - at) < end - at).
       ap (textMoved at) (sym (text-found left 0 (end - at) refl h)) ∙ rw (add-zero, ← add-assoc) (text-found bytes at end end-part (omega arith)))

@@ -1,11 +1,11 @@
-// The reader of one span: a small thing that holds the bytes left to it and gives what stands next in them.
-// The functions over it are thin, since each is proved by hand; callers use byte_in, four_in and text_in.
+// The reader of one span: a small thing that holds the bytes left to it and gives the next byte, the next four or a text.
+// Few functions take it, and each only takes it apart; callers with bytes and cursors use byte_in, four_in and text_in.
 ghost use mathlib.Core.Path.{_≡_};
 ghost use Prim.Native.Nat.{_≤_};
 ghost use lib.ListN.{length};
 ghost use Rattle.base.specs.Memory.{part};
 ghost use Rattle.spans.specs.Spans.{byteAt, fourAt, textAt};
-ghost use Rattle.readers.specs.Readers.{reach, byteOf, fourOf, textOf};
+ghost use Rattle.readers.specs.Readers.{leftEnd, byteOf, fourOf, textOf};
 use spans::Cursor;
 use spans::NextByte;
 use spans::NextFour;
@@ -16,8 +16,8 @@ pub struct SpanReader<'a> {
 }
 
 // A cursor counts in 32 bits, and a slice may be longer.
-fn reach(left: &[u8]) -> Cursor
-    ensures { λ r. ⌜ r .0 ≡ reach (now (left .entry)) ⌝ }
+fn left_end(left: &[u8]) -> Cursor
+    ensures { λ r. ⌜ r .0 ≡ leftEnd (now (left .entry)) ⌝ }
 {
     if left.len() <= 4294967295 {
         return Cursor(left.len() as u32);
@@ -25,22 +25,23 @@ fn reach(left: &[u8]) -> Cursor
     Cursor(4294967295)
 }
 
+// What a reader is asked, on its bytes. Its cursors count from the first of them.
 fn byte_of(left: &[u8]) -> NextByte
     ensures { λ r. ⌜ r ≡ byteOf (now (left .entry)) ⌝ }
 {
-    Cursor(0).next_byte(left, reach(left))
+    Cursor(0).next_byte(left, left_end(left))
 }
 
 fn four_of(left: &[u8]) -> NextFour
     ensures { λ r. ⌜ r ≡ fourOf (now (left .entry)) ⌝ }
 {
-    Cursor(0).next_four(left, reach(left))
+    Cursor(0).next_four(left, left_end(left))
 }
 
 fn text_of(left: &[u8]) -> NextText
     ensures { λ r. ⌜ r ≡ textOf (now (left .entry)) ⌝ }
 {
-    Cursor(0).next_text(left, reach(left))
+    Cursor(0).next_text(left, left_end(left))
 }
 
 pub fn reader_of<'a>(left: &'a [u8]) -> SpanReader<'a>
@@ -67,6 +68,7 @@ pub fn text_to_zero<'a>(r: SpanReader<'a>) -> NextText
     text_of(r.left)
 }
 
+// A reader is made and asked once.
 fn first_byte(left: &[u8]) -> NextByte
     ensures { λ r. ⌜ r ≡ byteOf (now (left .entry)) ⌝ }
 {
@@ -85,7 +87,7 @@ fn first_text(left: &[u8]) -> NextText
     text_to_zero(reader_of(left))
 }
 
-// What a cursor leaves of the bytes up to an end.
+// The bytes that a cursor leaves of a span.
 fn left_of(bytes: &[u8], at: Cursor, end: Cursor) -> &[u8]
     requires { ⌜ (at .0 ≤ end .0) × (end .0 ≤ length (now bytes)) ⌝ }
     ensures { λ r. ⌜ now r ≡ part (now (bytes .entry)) (at .0) (end .0) ⌝ }

@@ -9,8 +9,12 @@ ghost use Rattle.digits.specs.Digits.{allDigits};
 ghost use Rattle.classes.specs.Classes.{classTable};
 ghost use Rattle.splitting.specs.Split.{runClass, runEnd, runLimit, runAt, cutAt, textPiece, numberPiece, pieceAt};
 ghost use Rattle.splitting.specs.Choices.{Within, equal, riseOf, leanString, leanChar, byRise, leanDigits, byRise0, leanDigits0, lean, choiceAt, referenceOf, leansOn};
+use block::Block;
 use spans::Distance;
 use tokens::Padded;
+
+// The last position of a token; END comes behind it.
+const LAST: u32 = Block::TOKENS - 1;
 
 // A token of a name, split from the left.
 pub enum Piece {
@@ -74,9 +78,10 @@ fn run_limit(name: &[u8], class: u8, at: usize) -> usize
     requires { ⌜ (at < length (now name)) × (class ≡ runClass (getD (now name) at 0)) ⌝ }
     ensures { λ r. ⌜ r ≡ runLimit (now (name .entry)) at ⌝ }
 {
+    let digits = Block::DIGITS as usize;
     if class == 1 {
-        if 9 < name.len() - at {
-            return at + 9;
+        if digits < name.len() - at {
+            return at + digits;
         }
     }
     name.len()
@@ -100,7 +105,7 @@ pub fn cut(table: &[u8; 256], name: &[u8], p: u32, at: usize) -> usize
     if name.len() <= at {
         return at;
     }
-    if p == 127 {
+    if p == LAST {
         return name.len();
     }
     run_at(table, name, at)
@@ -134,7 +139,7 @@ pub fn piece_at(table: &[u8; 256], name: &[u8], p: u32, at: usize) -> Piece
     requires { ⌜ at < length (now name) ⌝ }
     ensures { λ r. ⌜ r ≡ pieceAt (now (name .entry)) p at ⌝ }
 {
-    if p == 127 {
+    if p == LAST {
         return text_piece(name, at, name.len());
     }
     let end = run_at(table, name, at);

@@ -16,7 +16,7 @@ pub fn byte_in(bytes: &[u8], dir: &[u32], cursors: &[u32], p: Position, stream: 
     let span = block::span_of(p, stream);
     let c = block::cursor_of(cursors, span);
     let end = block::end_of(dir, span);
-    c.next_byte(bytes, end)
+    readers::byte_in(bytes, c, end)
 }
 
 pub fn four_in(bytes: &[u8], dir: &[u32], cursors: &[u32], p: Position, stream: u32) -> NextFour
@@ -27,7 +27,7 @@ pub fn four_in(bytes: &[u8], dir: &[u32], cursors: &[u32], p: Position, stream: 
     let span = block::span_of(p, stream);
     let c = block::cursor_of(cursors, span);
     let end = block::end_of(dir, span);
-    c.next_four(bytes, end)
+    readers::four_in(bytes, c, end)
 }
 
 pub fn text_in(bytes: &[u8], dir: &[u32], cursors: &[u32], p: Position, stream: u32) -> NextText
@@ -38,5 +38,5 @@ pub fn text_in(bytes: &[u8], dir: &[u32], cursors: &[u32], p: Position, stream: 
     let span = block::span_of(p, stream);
     let c = block::cursor_of(cursors, span);
     let end = block::end_of(dir, span);
-    c.next_text(bytes, end)
+    readers::text_in(bytes, c, end)
 }

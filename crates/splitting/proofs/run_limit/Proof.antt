@@ -6,6 +6,9 @@ use borrow.Author.Needs.{needs}
 use Rattle.splitting.proofs.run_limit.Statement.{statement}
 use Rattle.splitting.proofs.run_limit.Tie as tie
 
+cast-digits : tie.Need-cast-digits
+cast-digits c = search needs
+
 sub-if2 : tie.Need-sub-if2
 sub-if2 c = search needs
 
@@ -31,4 +34,4 @@ returns-3 c =
     sym (limit-other (now (a .name)) (a .at) (omega arith) (λ e. c .if1 .left (s .pre .1 ∙ e)))
 
 pub run-limit-spec : {M : Type 1} → statement M
-run-limit-spec = tie.close (tie.spec sub-if2 add-result returns returns-2 returns-3)
+run-limit-spec = tie.close (tie.spec cast-digits sub-if2 add-result returns returns-2 returns-3)

@@ -1,3 +1,4 @@
+use Prim.Native.Nat.{_<_}
 use native.Mathlib.Omega.{arith}
 use Rattle.block.proofs.Laws.{span-below}
 use Rattle.steps.specs.Source.{byteIn}
@@ -18,18 +19,22 @@ end-of-requires c κs =
     let s = c .before .before .before .before .before in
     (s .pre .0 .directory, omega (arith, span-below (s .args .p .0) (s .args .stream) (omega arith) (omega arith)))
 
-next-byte-requires : tie.Need-next-byte-requires
-next-byte-requires c κs =
-    let s = c .before .before .before .before .before .before in
-    omega (arith, s .pre .0 .within (c .before .before .span-of .result) (omega (arith, span-below (s .args .p .0) (s .args .stream) (omega arith) (omega arith))))
+byte-in-requires : tie.Need-byte-in-requires
+byte-in-requires c κs =
+    let e = c .before in
+    let s = e .before .before .before .before .before in
+    let i = e .before .span-of .result in
+    let h = span-below (s .args .p .0) (s .args .stream) (omega arith) (omega arith) in
+    let l : i < 1290 = omega (arith, e .before .span-of .ensures) in
+    (omega (arith, s .pre .0 .unpassed i l, e .cursor-of .ensures, c .end-of .ensures), omega (arith, s .pre .0 .within i l, c .end-of .ensures))
 
 returns : tie.Need-returns
 unfolding byteIn
 returns c =
     let e = c .before in
-    rw (← e .before .before .span-of .ensures, ← e .before .cursor-of .ensures, ← e .end-of .ensures) (c .next-byte .ensures)
+    rw (← e .before .before .span-of .ensures, ← e .before .cursor-of .ensures, ← e .end-of .ensures) (c .byte-in .ensures)
 
 pub byte-in-spec : {M : Type 1} → statement M
 byte-in-spec =
     tie.close
-    (tie.spec span-of-requires cursor-of-requires end-of-requires next-byte-requires returns)
+    (tie.spec span-of-requires cursor-of-requires end-of-requires byte-in-requires returns)

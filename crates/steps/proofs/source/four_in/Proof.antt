@@ -1,3 +1,4 @@
+use Prim.Native.Nat.{_<_}
 use native.Mathlib.Omega.{arith}
 use Rattle.block.proofs.Laws.{span-below}
 use Rattle.steps.specs.Source.{fourIn}
@@ -18,18 +19,22 @@ end-of-requires c κs =
     let s = c .before .before .before .before .before in
     (s .pre .0 .directory, omega (arith, span-below (s .args .p .0) (s .args .stream) (omega arith) (omega arith)))
 
-next-four-requires : tie.Need-next-four-requires
-next-four-requires c κs =
-    let s = c .before .before .before .before .before .before in
-    omega (arith, s .pre .0 .within (c .before .before .span-of .result) (omega (arith, span-below (s .args .p .0) (s .args .stream) (omega arith) (omega arith))))
+four-in-requires : tie.Need-four-in-requires
+four-in-requires c κs =
+    let e = c .before in
+    let s = e .before .before .before .before .before in
+    let i = e .before .span-of .result in
+    let h = span-below (s .args .p .0) (s .args .stream) (omega arith) (omega arith) in
+    let l : i < 1290 = omega (arith, e .before .span-of .ensures) in
+    (omega (arith, s .pre .0 .unpassed i l, e .cursor-of .ensures, c .end-of .ensures), omega (arith, s .pre .0 .within i l, c .end-of .ensures))
 
 returns : tie.Need-returns
 unfolding fourIn
 returns c =
     let e = c .before in
-    rw (← e .before .before .span-of .ensures, ← e .before .cursor-of .ensures, ← e .end-of .ensures) (c .next-four .ensures)
+    rw (← e .before .before .span-of .ensures, ← e .before .cursor-of .ensures, ← e .end-of .ensures) (c .four-in .ensures)
 
 pub four-in-spec : {M : Type 1} → statement M
 four-in-spec =
     tie.close
-    (tie.spec span-of-requires cursor-of-requires end-of-requires next-four-requires returns)
+    (tie.spec span-of-requires cursor-of-requires end-of-requires four-in-requires returns)

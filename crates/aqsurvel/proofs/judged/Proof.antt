@@ -1,0 +1,49 @@
+use mathlib.Core.Path.{_≡_, refl, sym, ap, _∙_}
+use Rattle.aqsurvel.specs.Answers.{verdictNumber}
+use borrow.Author.Needs.{needs}
+use Rattle.aqsurvel.proofs.judged.Statement.{statement}
+use Rattle.aqsurvel.proofs.judged.Tie as tie
+
+enum-told : tie.Need-enum-told
+enum-told c = search needs
+
+pack-requires : tie.Need-pack-requires
+pack-requires c κs = search needs
+
+enum-told-2 : tie.Need-enum-told-2
+enum-told-2 c = search needs
+
+pack-requires-2 : tie.Need-pack-requires-2
+pack-requires-2 c κs = search needs
+
+enum-known-v : tie.Need-enum-known-v
+enum-known-v c = search needs
+
+refused-requires : tie.Need-refused-requires
+refused-requires c κs = search needs
+
+returns : tie.Need-returns
+unfolding verdictNumber
+returns c = c .pack .ensures ∙ sym (ap verdictNumber (c .before .enum-told .given .1))
+
+returns-2 : tie.Need-returns-2
+unfolding verdictNumber
+returns-2 c = c .pack2 .ensures ∙ sym (ap verdictNumber (c .before .enum-told2 .given .1))
+
+returns-3 : tie.Need-returns-3
+unfolding verdictNumber
+returns-3 c = c .refused .ensures ∙ sym (ap verdictNumber (c .before .before .v .given .1))
+
+pub judged-spec : {M : Type 1} → statement M
+judged-spec =
+    tie.close
+    (tie.spec
+    enum-told
+    pack-requires
+    enum-told-2
+    pack-requires-2
+    enum-known-v
+    refused-requires
+    returns
+    returns-2
+    returns-3)

@@ -1,0 +1,18 @@
+use mathlib.Core.Path.{_≡_, refl, sym, ap, _∙_}
+use Rattle.aqsurvel.specs.Answers.{packed}
+use borrow.Author.Needs.{needs}
+use Rattle.aqsurvel.proofs.pack.Statement.{statement}
+use Rattle.aqsurvel.proofs.pack.Tie as tie
+
+mul-result : tie.Need-mul-result
+mul-result c = search needs
+
+add-result : tie.Need-add-result
+add-result c = search needs
+
+returns : tie.Need-returns
+unfolding packed
+returns c = refl
+
+pub pack-spec : {M : Type 1} → statement M
+pack-spec = tie.close (tie.spec mul-result add-result returns)

@@ -1,0 +1,76 @@
+-- The bench cases marked P, as one list under one statement.
+use Prim.Native.Nat.{ℕ, _<_}
+use mathlib.Core.Path.{_≡_, refl, _∙_}
+use mathlib.Core.Bool.{true}
+use mathlib.Core.List.{List, [], _∷_, _++_}
+use native.Mathlib.Omega.{arith}
+use Rattle.base.specs.Choice.{pick}
+use Rattle.base.specs.Memory.{part, written}
+use Rattle.digits.specs.Digits.{low, padded, countWithin, digitCount, printed, fitsWidth, isDigit, valueFrom, valueOf}
+use Rattle.base.specs.Every.{every as everyByte}
+use Rattle.classes.specs.Classes.{isAllowed}
+use Rattle.spans.specs.Spans.{byteAt, four, fourAt}
+use Rattle.block.specs.Block.{spanOf, endOf, cursorOf, every}
+use Rattle.tokens.specs.Types.{typeOf}
+use Rattle.tokens.specs.Tokens.{bytesOf, kindOf, numberOf, widthOf, lengthOf, rowOf}
+use Rattle.kept.specs.Tables.{room, entryAt, rowAt}
+use Rattle.kept.specs.Judgement.{entryText, entryRows, rowKind, rowFits, rowsFit, earlierFits}
+use Rattle.steps.specs.Source.{byteIn, fourIn}
+use Rattle.steps.specs.Steps.{charStep, paddedStep, widthStep, digits0Step, deltaStep, delta0Step, hasRow, matchAt, valueStep, carries, barred, typedStep, stepAt}
+use Rattle.names.specs.Names.{past, typeIn, valuePast, grown, ended, printable, onward, nameFrom, nameOf}
+use Rattle.reading.specs.Reads.{atName, dupHead, diffHead, typedHead, headOf, roomFor, kept, keepOf, headPast, dupOf, namedOf, diffOf, none, entryBack, headedOf, nextOf}
+use Rattle.splitting.specs.Split.{runClass, runEnd, runLimit, runAt, cutAt, textPiece, numberPiece, pieceAt}
+use Rattle.splitting.specs.Choices.{riseOf, byRise, leanDigits, lean, choiceAt, choicesFrom, choicesOf, anew, leansOn}
+use Rattle.demands.specs.Bench.{cases, tokenCases, blockCases, writingCases}
+use Rattle.demands.specs.Runs.{left}
+use Rattle.demands.specs.Cases.{Case, Hold, shown, Stream, bytesIn, dirFrom, inDirectory, Told, told, readOver}
+use Rattle.demands.proofs.Lemmas.Blocks.{curFrom, nexts, quick, over}
+
+-- a read over a small block, by what it computes to
+block : (n : ℕ) (xs : List Stream) (said : Told) → n < 65536 → inDirectory xs ≡ true → quick n xs ≡ said → readOver n xs ≡ said
+block n xs said h ok e = over n xs h ok ∙ e
+
+first : (xs : List Stream) (said : Told) → inDirectory xs ≡ true → quick 0 xs ≡ said → readOver 0 xs ≡ said
+first xs said ok e = block 0 xs said (omega arith) ok e
+
+fourth-read : (xs : List Stream) (said : Told) → inDirectory xs ≡ true → quick 3 xs ≡ said → readOver 3 xs ≡ said
+fourth-read xs said ok e = block 3 xs said (omega arith) ok e
+
+-- several equations of one case
+two : {A : Type 0} {a b c d : A} → a ≡ b → c ≡ d → _≡_ {A = A × A} (a, c) (b, d)
+two p q = λ i. (p i, q i)
+
+three : {A : Type 0} {a b c d e f : A} → a ≡ b → c ≡ d → e ≡ f → _≡_ {A = A × A × A} (a, c, e) (b, d, f)
+three p q r = λ i. (p i, q i, r i)
+
+four-of : {A : Type 0} {a b c d e f g h : A} → a ≡ b → c ≡ d → e ≡ f → g ≡ h → _≡_ {A = A × A × A × A} (a, c, e, g) (b, d, f, h)
+four-of p q r s = λ i. (p i, q i, r i, s i)
+
+tokens-hold : Hold tokenCases
+unfolding pick low padded countWithin digitCount printed fitsWidth bytesOf paddedStep widthStep digits0Step deltaStep delta0Step shown
+tokens-hold = (refl, (refl, (refl, (refl, (refl, tt)))))
+
+blocks-hold : Hold blockCases
+unfolding pick part written everyByte isAllowed byteAt four fourAt spanOf endOf cursorOf every typeOf bytesOf kindOf numberOf widthOf lengthOf rowOf room entryAt rowAt entryText entryRows rowKind rowFits rowsFit earlierFits byteIn fourIn charStep hasRow matchAt valueStep carries barred typedStep stepAt past typeIn valuePast grown ended printable onward nameFrom nameOf atName dupHead diffHead typedHead headOf roomFor kept keepOf headPast dupOf namedOf diffOf none entryBack headedOf nextOf told quick nexts left bytesIn dirFrom curFrom inDirectory
+blocks-hold = (
+  three (first _ _ refl refl) (first _ _ refl refl) (first _ _ refl refl),
+  (
+    first _ _ refl refl,
+    (
+      two (fourth-read _ _ refl refl) (fourth-read _ _ refl refl),
+      (first _ _ refl refl, (four-of (first _ _ refl refl) (first _ _ refl refl) (first _ _ refl refl) (first _ _ refl refl), tt)),
+    ),
+  ),
+)
+
+writing-holds : Hold writingCases
+unfolding pick part isDigit valueFrom valueOf runClass runEnd runLimit runAt cutAt textPiece numberPiece pieceAt riseOf byRise leanDigits lean choiceAt choicesFrom choicesOf anew leansOn
+writing-holds = (refl, (refl, tt))
+
+join : (xs ys : List Case) → Hold xs → Hold ys → Hold (xs ++ ys)
+join [] ys p q = q
+join (x ∷ xs) ys p q = (p .0, join xs ys (p .1) q)
+
+-- each case is as the paper says
+pub all-hold : Hold cases
+all-hold = join (tokenCases ++ blockCases) writingCases (join tokenCases blockCases tokens-hold blocks-hold) writing-holds

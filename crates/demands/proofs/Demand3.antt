@@ -1,0 +1,190 @@
+-- Demand 3: from a fresh start on one block, after any sequence of reads and claims, refused ones too.
+use Prim.Native.Nat.{ℕ, suc, _+_, _-_, _<_}
+use mathlib.Core.Path.{_≡_, refl, sym, ap, _∙_, subst}
+use mathlib.Core.List.{List, [], _∷_}
+use native.Mathlib.Omega.{arith}
+use native.Mathlib.Nat.{add-zero}
+use lib.ListN.{length, replicate}
+use Rattle.base.proofs.Choice.{never}
+use Rattle.block.specs.declared.State.{State}
+use Rattle.block.specs.declared.Refusal.{Refusal}
+use Rattle.block.specs.declared.Opened.the-variants as opened
+use Rattle.block.specs.Block.{opening, openOf, state}
+use Rattle.block.proofs.Laws.{open-sound, open-inside}
+use Rattle.kept.specs.declared.Entry.{Entry}
+use Rattle.kept.specs.Tables.{Kept, keeping, entryAt}
+use Rattle.kept.specs.Inside.{TextCounted}
+use Rattle.kept.proofs.Laws.{counts-text, counts-of, earlier-fits-of}
+use Rattle.steps.specs.Source.{Source, source}
+use Rattle.reading.specs.declared.Answer.the-variants as answer
+use Rattle.reading.specs.Reads.{Outcome, kept, readOf}
+use Rattle.reading.specs.Blocks.{blockOf}
+use Rattle.claims.specs.declared.Verdict.the-variants.{Refused}
+use Rattle.claims.specs.Claims.{nameText}
+use Rattle.claims.proofs.Laws.{Answerable, confirmed-of, denied-of, eleven-of, confirmed, thirteen, thirteen-at}
+use Rattle.demands.specs.Runs.{Lent, lent, read, left, Reads, Keeps, none, next, Fresh, Call, reading, claiming, after, run, claimed, nameAt}
+use Rattle.demands.specs.Right.{Demand3, Right, NameRight, Judged, Sane, left-over, by-rules}
+use Rattle.demands.specs.Refusals.{by-rule, by-memory, Why, unsound, uncounted, outside, unread, unnamed}
+use Rattle.demands.proofs.Refusals.{read-why}
+use Rattle.demands.proofs.Lemmas.Ways.{Way, refuses, ends, keeps, way}
+use Rattle.demands.proofs.Lemmas.Keeping.{fresh-right, after-right}
+use Rattle.demands.proofs.Lemmas.Later.{Later, later-same, later-then, later-adds, entry-later, text-later}
+use Rattle.demands.proofs.Adds.{read-adds}
+use Rattle.demands.proofs.Untouched.{Whole, block-reads}
+
+run-right : (bytes dir : List ℕ) (cs : List Call) (l : Lent) → Right bytes dir l → Right bytes dir (run bytes dir l cs)
+unfolding run
+run-right bytes dir [] l r = r
+run-right bytes dir (c ∷ cs) l r = run-right bytes dir cs (after bytes dir l c) (after-right bytes dir l c r)
+
+-- at all times: the counts and cursors are sound, every kept name's tokens, printed end to end, are that name, and each later name's reference points to a lower number
+pub always-right : (bytes dir : List ℕ) (count : ℕ) (l : Lent) → Fresh bytes dir count l → (calls : List Call) → Right bytes dir (run bytes dir l calls)
+always-right bytes dir count l f calls = run-right bytes dir calls l (fresh-right bytes dir count l f)
+
+-- claims over tables that are right
+right-judged : (bytes dir : List ℕ) (l : Lent) → Right bytes dir l → (number : ℕ) (claim : List ℕ) → Judged l number claim
+unfolding claimed nameAt
+right-judged bytes dir l r number claim =
+    let m : Kept = l .kept in
+    let c : TextCounted (m .state) (m .text) (m .names) = counts-text m (r .counts) in
+    let a : number < m .state .names → Answerable number claim (m .state) (m .text) (m .names) =
+    λ h. record { counts = c; below = h; inside = r .names number h .text } in
+    record {
+      confirmed = λ h e. confirmed-of number claim (m .state) (m .text) (m .names) (a h) e;
+      only = λ q. let y = confirmed number claim (m .state) (m .text) (m .names) q in (y .0 .below, y .1);
+      denied = λ h n. denied-of number claim (m .state) (m .text) (m .names) (a h) n;
+      unread = λ h. eleven-of number claim (m .state) (m .text) (m .names) c h;
+      never-13 = (
+        λ q. thirteen number claim (m .state) (m .text) (m .names) q c,
+        λ q. let y = thirteen-at number claim (m .state) (m .text) (m .names) q in y .1 .1 (r .names number (y .1 .0) .text),
+      );
+    }
+
+-- every claim at any time
+pub always-judged : (bytes dir : List ℕ) (count : ℕ) (l : Lent) → Fresh bytes dir count l → (calls : List Call)
+    → (number : ℕ) (claim : List ℕ) → Judged (run bytes dir l calls) number claim
+always-judged bytes dir count l f calls number claim = right-judged bytes dir (run bytes dir l calls) (always-right bytes dir count l f calls) number claim
+
+-- a read over what is lent keeps a name, or leaves everything as it was
+by-way : {P : Type 0} (s : Source) (m : Kept) (o : Outcome) → Way s m o → ((i : ℕ) → o .answer ≡ answer.Kept i → P) → (left o ≡ lent (s .cur) m → P) → P
+unfolding left kept
+by-way s m o (refuses r y) f g = g refl
+by-way s m o (ends a b c) f g = g refl
+by-way s m o (keeps x first rows d a b c e) f g = f (m .state .names) refl
+
+read-or-not : {P : Type 0} (bytes dir : List ℕ) (l : Lent) → ((i : ℕ) → read bytes dir l .answer ≡ answer.Kept i → P) → (left (read bytes dir l) ≡ l → P) → P
+unfolding read
+read-or-not bytes dir l f g = by-way (source bytes dir (l .cur)) (l .kept) (readOf (source bytes dir (l .cur)) (l .kept)) (way _ _) f g
+
+-- the calls that kept nothing leave no mark: the memory is that of as many reads in a row as kept a name
+pub only-kept : (bytes dir : List ℕ) (calls : List Call) (l : Lent) → Reads bytes dir l (run bytes dir l calls)
+unfolding run after
+only-kept bytes dir [] l = record { names = 0; reads = none l }
+only-kept bytes dir (reading ∷ cs) l =
+    let h : Reads bytes dir (left (read bytes dir l)) (run bytes dir (left (read bytes dir l)) cs) = only-kept bytes dir cs (left (read bytes dir l)) in
+    read-or-not bytes dir l
+    (λ i e. record { names = suc (h .names); reads = next (h .names) i l _ e (h .reads) })
+    (λ e. subst (λ (z : Lent). Reads bytes dir z (run bytes dir (left (read bytes dir l)) cs)) e h)
+only-kept bytes dir (claiming n b ∷ cs) l = only-kept bytes dir cs l
+
+-- the same reads, made one after another and nothing between
+pub plain-reads : (bytes dir : List ℕ) (n : ℕ) (l z : Lent) → Keeps bytes dir n l z → run bytes dir l (replicate n reading) ≡ z
+unfolding run after
+plain-reads bytes dir n l z (none x) = refl
+plain-reads bytes dir n l z (next k i x y e h) = plain-reads bytes dir k _ z h
+
+module _ (bytes dir : List ℕ) where
+  one-later : (l : Lent) (i : ℕ) → read bytes dir l .answer ≡ answer.Kept i → Later (l .kept) (left (read bytes dir l) .kept)
+  unfolding read left
+  one-later l i e = later-adds (source bytes dir (l .cur)) (l .kept) i _ (read-adds (source bytes dir (l .cur)) (l .kept) i e)
+
+  one-name : (l : Lent) (i : ℕ) → read bytes dir l .answer ≡ answer.Kept i → left (read bytes dir l) .kept .state .names ≡ l .kept .state .names + 1
+  unfolding read left
+  one-name l i e = ap (λ (x : State). x .names) (read-adds (source bytes dir (l .cur)) (l .kept) i e .counts)
+
+  -- so many reads keep so many names, and what is kept stays
+  pub so-many : (n : ℕ) (l z : Lent) → Keeps bytes dir n l z → z .kept .state .names ≡ l .kept .state .names + n
+  so-many n l z (none x) = sym (add-zero _)
+  so-many n l z (next k i x y e h) = so-many k _ z h ∙ omega (arith, one-name l i e)
+
+  keeps-later : (n : ℕ) (l z : Lent) → Keeps bytes dir n l z → Later (l .kept) (z .kept)
+  keeps-later n l z (none x) = later-same (l .kept)
+  keeps-later n l z (next k i x y e h) = later-then (one-later l i e) (keeps-later k _ z h)
+
+  -- reads that stop where no name is kept go through wherever other reads came
+  reads-on : (n k : ℕ) (l z w : Lent) → Keeps bytes dir n l z → Keeps bytes dir k l w → ((i : ℕ) → read bytes dir w .answer ≡ answer.Kept i → ⊥) → Reads bytes dir z w
+  reads-on n k l z w (none x) g s = record { names = k; reads = g }
+  reads-on n k l z w (next a i x y e h) (none u) s = absurd (s i e)
+  reads-on n k l z w (next a i x y e h) (next b j u v f g) s = reads-on a b _ z w h g s
+
+  -- a name that is kept stays the same name
+  name-later : (n : ℕ) (l z : Lent) → Right bytes dir l → Keeps bytes dir n l z → (i : ℕ) → i < l .kept .state .names → nameAt l i ≡ nameAt z i
+  unfolding nameAt
+  name-later n l z r k i h =
+      let e : Entry = entryAt (l .kept .names) i in
+      let t : Later (l .kept) (z .kept) = keeps-later n l z k in
+      let n : NameRight (l .kept) i = r .names i h in
+      sym (ap (nameText (z .kept .text)) (entry-later (l .kept) (z .kept) t (r .counts) i h)
+      ∙ text-later (l .kept) (z .kept) t (r .counts) e (n .text))
+
+-- what is kept is what reading the block from its start gives, whatever was refused in between:
+-- after any calls the names are the first of those that a whole-block read keeps
+pub first-names : (s : Source) (m : Kept) (count : ℕ) (st : State) (cur : List ℕ)
+    → openOf (length (s .bytes)) (s .dir) count (s .cur) ≡ opening (opened.Fresh st) cur
+    → (calls : List Call) (i : ℕ) → i < run (s .bytes) (s .dir) (lent cur (keeping st (m .text) (m .names) (m .rows))) calls .kept .state .names
+    → (i < blockOf s m count .kept .state .names)
+    × (nameAt (run (s .bytes) (s .dir) (lent cur (keeping st (m .text) (m .names) (m .rows))) calls) i ≡ nameAt (left (blockOf s m count)) i)
+unfolding left
+first-names s m count st cur e calls i h =
+    let l : Lent = lent cur (keeping st (m .text) (m .names) (m .rows)) in
+    let z : Lent = run (s .bytes) (s .dir) l calls in
+    let r : Right (s .bytes) (s .dir) z = always-right (s .bytes) (s .dir) count l (record { old = s .cur; state = st; opens = e; begins = refl }) calls in
+    let b : Whole (s .bytes) (s .dir) l (blockOf s m count) = block-reads s m count st cur e in
+    let k : Reads (s .bytes) (s .dir) l z = only-kept (s .bytes) (s .dir) calls l in
+    let g : Reads (s .bytes) (s .dir) z (b .last) = reads-on (s .bytes) (s .dir) _ _ l z (b .last) (k .reads) (b .before) (λ j q. b .stops j (b .answers ∙ q)) in
+    let n : z .kept .state .names + g .names ≡ b .last .kept .state .names = sym (so-many (s .bytes) (s .dir) _ z (b .last) (g .reads)) in
+    let u : left (blockOf s m count) ≡ b .last = b .stays in (
+      omega (arith, ap (λ (x : Lent). x .kept .state .names) u),
+      name-later (s .bytes) (s .dir) (g .names) z (b .last) r (g .reads) i h ∙ ap (λ (x : Lent). nameAt x i) (sym u),
+    )
+
+-- a refusal of a read over tables that are right: 10 for what is left unread, or one that the rules give for the name being read
+refusal-right : (bytes dir : List ℕ) (l : Lent) → Right bytes dir l → (q : Refusal) → Why (source bytes dir (l .cur)) (l .kept) q → Sane l q
+refusal-right bytes dir l r q (unsound a) = absurd (never (sym a ∙ open-sound bytes dir (l .cur) (r .opened)))
+refusal-right bytes dir l r q (uncounted a b) = absurd (never (sym b ∙ counts-of (l .kept) (r .counts)))
+refusal-right bytes dir l r q (outside a b c) = absurd (never (sym c ∙ open-inside bytes dir (l .cur) (r .opened)))
+refusal-right bytes dir l r q (unread a b c) = left-over b
+refusal-right bytes dir l r q (unnamed n a b (by-rule k c)) = by-rules n c
+refusal-right bytes dir l r q (unnamed n a b (by-memory d c f)) =
+    let i : ℕ = l .kept .state .names - d in
+    let n : NameRight (l .kept) i = r .names i (omega arith) in
+    absurd (never (sym f ∙ earlier-fits-of (l .kept) i (record {
+      text = n .text;
+      rows = n .rows;
+      each = λ j a b. r .rows j (omega (arith, n .rows .ends)) .fits;
+    })))
+
+-- from a fresh start no read meets 1 or 13
+pub always-sane : (bytes dir : List ℕ) (count : ℕ) (l : Lent) → Fresh bytes dir count l → (calls : List Call) (q : Refusal)
+    → read bytes dir (run bytes dir l calls) .answer ≡ answer.Refused q → Sane (run bytes dir l calls) q
+unfolding read
+always-sane bytes dir count l f calls q e =
+    refusal-right bytes dir (run bytes dir l calls) (always-right bytes dir count l f calls) q (read-why _ _ q e)
+
+-- demand 3: start fresh on one block and make any sequence of reads and claims, refused ones too
+pub demand-3 : (bytes dir : List ℕ) (count : ℕ) (l : Lent) → Fresh bytes dir count l → (calls : List Call) → Demand3 bytes dir l (run bytes dir l calls)
+demand-3 bytes dir count l f calls = record {
+  right = always-right bytes dir count l f calls;
+  claims = always-judged bytes dir count l f calls;
+  reads = only-kept bytes dir calls l;
+  refusals = always-sane bytes dir count l f calls;
+}
+
+-- what a whole-block read leaves is right too
+pub block-right : (s : Source) (m : Kept) (count : ℕ) (st : State) (cur : List ℕ)
+    → openOf (length (s .bytes)) (s .dir) count (s .cur) ≡ opening (opened.Fresh st) cur → Right (s .bytes) (s .dir) (left (blockOf s m count))
+block-right s m count st cur e =
+    let l : Lent = lent cur (keeping st (m .text) (m .names) (m .rows)) in
+    let b : Whole (s .bytes) (s .dir) l (blockOf s m count) = block-reads s m count st cur e in
+    subst (Right (s .bytes) (s .dir)) (plain-reads (s .bytes) (s .dir) (b .names) l (b .last) (b .before) ∙ sym (b .stays))
+    (always-right (s .bytes) (s .dir) count l (record { old = s .cur; state = st; opens = e; begins = refl }) (replicate (b .names) reading))

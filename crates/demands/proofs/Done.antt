@@ -1,0 +1,75 @@
+-- "done", and 10: a read with k equal to the count.
+use Prim.Native.Nat.{ℕ, _<_}
+use mathlib.Core.Path.{_≡_, refl, sym, _∙_}
+use mathlib.Core.Bool.{true}
+use mathlib.Core.List.{List}
+use native.Mathlib.Omega.{arith}
+use borrow.Author.Tests.{eq-eqb}
+use lib.ListN.{length}
+use Rattle.base.proofs.Choice.{pick-true, pick-false, by-test}
+use Rattle.block.specs.declared.Refusal.the-variants as refusal
+use Rattle.block.specs.Block.{sound, allAtEnd, startOf, endOf, cursorOf, starts, state}
+use Rattle.block.proofs.Laws.{at-end-each, each-at-end, opens-fresh, starts-cursor}
+use Rattle.kept.specs.Tables.{Kept, keeping}
+use Rattle.steps.specs.Source.{Source, source}
+use Rattle.reading.specs.declared.Answer.{Answer}
+use Rattle.reading.specs.declared.Answer.the-variants as answer
+use Rattle.reading.specs.Reads.{Outcome, outcome, plain, kept, nextOf, readOf}
+use Rattle.reading.specs.Blocks.{goOn, readsFrom, openedOf, blockOf}
+use Rattle.demands.specs.Refusals.{Ready}
+use Rattle.demands.proofs.Lemmas.Ways.{ready-reads, Way, refuses, ends, keeps, way, fresh-ready}
+
+-- every cursor is at its end
+abbrev pub AtEnd : List ℕ → List ℕ → Type 0
+AtEnd dir cur = (j : ℕ) → j < 1290 → cursorOf cur j ≡ endOf dir j
+
+done-way : (s : Source) (m : Kept) (o : Outcome) → Way s m o → o .answer ≡ answer.Done → (m .state .names ≡ m .state .count) × AtEnd (s .dir) (s .cur)
+unfolding kept
+done-way s m o (refuses r y) e = let z : _≡_ {A = ℕ} 0 1 = cc in absurd (omega arith)
+done-way s m o (ends r k a) e = (k, at-end-each (s .dir) (s .cur) a)
+done-way s m o (keeps x first rows d r k g f) e = let z : _≡_ {A = ℕ} 0 1 = cc in absurd (omega arith)
+
+-- "done" means that all names are read and every cursor is at its end
+pub done-means : (s : Source) (m : Kept) → readOf s m .answer ≡ answer.Done → (m .state .names ≡ m .state .count) × AtEnd (s .dir) (s .cur)
+done-means s m e = done-way s m (readOf s m) (way s m) e
+
+-- all names read and every cursor at its end: "done"
+pub done-when : (s : Source) (m : Kept) → Ready s m → m .state .names ≡ m .state .count → AtEnd (s .dir) (s .cur) → readOf s m ≡ outcome answer.Done (s .cur) m
+unfolding nextOf
+done-when s m r k a = ready-reads s m r ∙ pick-true _ _ (eq-eqb _ _ k) ∙ pick-true _ _ (each-at-end (s .dir) (s .cur) a)
+
+-- all names read while a cursor is short of its end: 10
+pub ten-when : (s : Source) (m : Kept) → Ready s m → m .state .names ≡ m .state .count
+    → (j : ℕ) → j < 1290 → (cursorOf (s .cur) j ≡ endOf (s .dir) j → ⊥) → readOf s m ≡ outcome (answer.Refused (refusal.Plain 10)) (s .cur) m
+unfolding nextOf plain
+ten-when s m r k j h n =
+    ready-reads s m r ∙ pick-true _ _ (eq-eqb _ _ k)
+    ∙ pick-false _ _ (by-test (allAtEnd (s .dir) (s .cur)) (λ t. absurd (n (at-end-each (s .dir) (s .cur) t j h))) (λ f. f))
+
+the-last : (o : Outcome) (a : Answer) → goOn (λ x. x) o a ≡ o
+unfolding goOn
+the-last o (answer.Kept n) = refl
+the-last o answer.Done = refl
+the-last o (answer.Refused r) = refl
+
+-- what is kept once a block of no names has opened
+abbrev pub no-names : Kept → Kept
+no-names m = keeping (state 0 0 0 0) (m .text) (m .names) (m .rows)
+
+module _ (s : Source) (m : Kept) (sounds : sound (length (s .bytes)) (s .dir) (s .cur) ≡ true) where
+  -- a block of no names is opened and read once
+  one-read : blockOf s m 0 ≡ readOf (source (s .bytes) (s .dir) (starts (s .dir))) (no-names m)
+  unfolding blockOf openedOf readsFrom
+  one-read = rw (← opens-fresh (length (s .bytes)) (s .dir) 0 (s .cur) sounds (omega arith)) (the-last _ _)
+
+  ready : Ready (source (s .bytes) (s .dir) (starts (s .dir))) (no-names m)
+  ready = fresh-ready (s .bytes) (s .dir) 0 (s .cur) (m .text) (m .names) (m .rows) sounds (omega arith)
+
+  -- reading count 0 with empty spans is "done"
+  pub empty-block : ((j : ℕ) → j < 1290 → startOf (s .dir) j ≡ endOf (s .dir) j) → blockOf s m 0 ≡ outcome answer.Done (starts (s .dir)) (no-names m)
+  empty-block e = one-read ∙ done-when _ _ ready refl (λ j h. starts-cursor (s .dir) j h ∙ e j h)
+
+  -- and with a span that isn't empty it is 10
+  pub unread-block : (j : ℕ) → j < 1290 → (startOf (s .dir) j ≡ endOf (s .dir) j → ⊥)
+      → blockOf s m 0 ≡ outcome (answer.Refused (refusal.Plain 10)) (starts (s .dir)) (no-names m)
+  unread-block j h n = one-read ∙ ten-when _ _ ready refl j h (λ e. n (sym (starts-cursor (s .dir) j h) ∙ e))

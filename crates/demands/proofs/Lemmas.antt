@@ -1,0 +1,13 @@
+-- Laws of the model's parts that the theorems stand on.
+pub mod Streams
+pub mod Traces
+pub mod Ways
+pub mod Moves
+pub mod Writes
+pub mod Spelling
+pub mod Laying
+pub mod Making
+pub mod Adding
+pub mod Later
+pub mod Keeping
+pub mod Blocks

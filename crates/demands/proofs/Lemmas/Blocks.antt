@@ -1,0 +1,165 @@
+-- Small blocks from their streams open, and each read over them goes on to its name.
+use Prim.Native.Nat.{ℕ, zero, suc, _+_, _*_, _≤_, _<_}
+use mathlib.Core.Path.{_≡_, refl, sym, ap, _∙_}
+use mathlib.Core.Bool.{true}
+use mathlib.Core.List.{List, [], _∷_, _++_}
+use native.Mathlib.Omega.{arith}
+use borrow.Author.Tests.{leb-true, eqb-true, eqb-false}
+use lib.Dec.{leb, eqb}
+use lib.ListN.{length, set, replicate, length-append, length-set, length-replicate, getD-replicate}
+use lib.Seq.{getD-set-same, getD-set-other, ext-getD}
+use Rattle.base.specs.Choice.{both}
+use Rattle.base.proofs.Choice.{both-true, by-test}
+use Rattle.block.specs.Block.{spanOf, startOf, endOf, cursorOf, starts, state}
+use Rattle.block.proofs.Laws.{span-below, cursor-set-same, cursor-set-other, starts-length, starts-cursor, sound-of, opens-fresh}
+use Rattle.kept.specs.Tables.{keeping}
+use Rattle.steps.specs.Source.{source}
+use Rattle.reading.specs.Reads.{Outcome, nextOf}
+use Rattle.demands.specs.Runs.{Lent, lent, read, left, Fresh, reading, after, run}
+use Rattle.demands.specs.Right.{Right}
+use Rattle.demands.specs.Cases.{Stream, bytesIn, dirFrom, inDirectory, openOver, Told, told, readOver}
+use Rattle.demands.proofs.Lemmas.Ways.{ready-reads}
+use Rattle.demands.proofs.Lemmas.Keeping.{fresh-right, after-right}
+
+-- each cursor at its start, put together as the directory is
+unfoldable pub curFrom : ℕ → List Stream → List ℕ
+curFrom at [] = replicate 1290 0
+curFrom at (x ∷ xs) = set (curFrom (at + length (x .bytes)) xs) (spanOf (x .position) (x .stream)) at
+
+-- a directory with one span more
+module _ (dir : List ℕ) (i a b : ℕ) (h : i < 1290) (l : length dir ≡ 2580) where
+  abbrev more : List ℕ
+  more = set (set dir (2 * i) a) (2 * i + 1) b
+
+  start-here : startOf more i ≡ a
+  unfolding startOf
+  start-here = getD-set-other (set dir (2 * i) a) (2 * i + 1) (2 * i) b 0 (λ e. omega arith) ∙ getD-set-same dir (2 * i) a 0 (omega arith)
+
+  end-here : endOf more i ≡ b
+  unfolding endOf
+  end-here = getD-set-same (set dir (2 * i) a) (2 * i + 1) b 0 (omega (arith, length-set dir (2 * i) a))
+
+  start-there : (j : ℕ) → (j ≡ i → ⊥) → startOf more j ≡ startOf dir j
+  unfolding startOf
+  start-there j n = getD-set-other (set dir (2 * i) a) (2 * i + 1) (2 * j) b 0 (λ e. omega arith) ∙ getD-set-other dir (2 * i) (2 * j) a 0 (λ e. n (omega arith))
+
+  end-there : (j : ℕ) → (j ≡ i → ⊥) → endOf more j ≡ endOf dir j
+  unfolding endOf
+  end-there j n = getD-set-other (set dir (2 * i) a) (2 * i + 1) (2 * j + 1) b 0 (λ e. n (omega arith)) ∙ getD-set-other dir (2 * i) (2 * j + 1) a 0 (λ e. omega arith)
+
+-- spans laid from a place on
+record Laid (at : ℕ) (xs : List Stream) : Type 0 where
+  directory : length (dirFrom at xs) ≡ 2580
+  cursors : length (curFrom at xs) ≡ 1290
+  ordered : (j : ℕ) → j < 1290 → startOf (dirFrom at xs) j ≤ endOf (dirFrom at xs) j
+  within : (j : ℕ) → j < 1290 → endOf (dirFrom at xs) j ≤ at + length (bytesIn xs)
+  start : (j : ℕ) → j < 1290 → cursorOf (curFrom at xs) j ≡ startOf (dirFrom at xs) j
+
+no-start : (at j : ℕ) → j < 1290 → startOf (dirFrom at []) j ≡ 0
+unfolding startOf dirFrom
+no-start at j h = getD-replicate {A = ℕ} 2580 (2 * j) 0 0 (omega arith)
+
+no-end : (at j : ℕ) → j < 1290 → endOf (dirFrom at []) j ≡ 0
+unfolding endOf dirFrom
+no-end at j h = getD-replicate {A = ℕ} 2580 (2 * j + 1) 0 0 (omega arith)
+
+no-cursor : (at j : ℕ) → j < 1290 → cursorOf (curFrom at []) j ≡ 0
+unfolding cursorOf curFrom
+no-cursor at j h = getD-replicate {A = ℕ} 1290 j 0 0 h
+
+no-directory : (at : ℕ) → length (dirFrom at []) ≡ 2580
+unfolding dirFrom
+no-directory at = length-replicate {A = ℕ} 2580 0
+
+no-cursors : (at : ℕ) → length (curFrom at []) ≡ 1290
+unfolding curFrom
+no-cursors at = length-replicate {A = ℕ} 1290 0
+
+laid-more : (x : Stream) (xs : List Stream) (at : ℕ) → x .position ≤ 128 → x .stream ≤ 9 → Laid (at + length (x .bytes)) xs → Laid at (x ∷ xs)
+unfolding dirFrom curFrom bytesIn
+laid-more x xs at a b l =
+    let i : ℕ = spanOf (x .position) (x .stream) in
+    let h : i < 1290 = span-below (x .position) (x .stream) a b in
+    let e : ℕ = at + length (x .bytes) in
+    let d : List ℕ = dirFrom e xs in
+    let n : length (x .bytes ++ bytesIn xs) ≡ length (x .bytes) + length (bytesIn xs) = length-append (x .bytes) (bytesIn xs) in
+    let sh : startOf (set (set d (2 * i) at) (2 * i + 1) e) i ≡ at = start-here d i at e h (l .directory) in
+    let eh : endOf (set (set d (2 * i) at) (2 * i + 1) e) i ≡ e = end-here d i at e h (l .directory) in
+    record {
+      directory = length-set (set d (2 * i) at) (2 * i + 1) e ∙ length-set d (2 * i) at ∙ l .directory;
+      cursors = length-set (curFrom e xs) i at ∙ l .cursors;
+      ordered = λ j q. by-test (eqb j i) (λ t. rw (eqb-true j i t) (omega arith))
+          (λ t. let m = eqb-false j i t in omega (arith, start-there d i at e h (l .directory) j m, end-there d i at e h (l .directory) j m, l .ordered j q));
+      within = λ j q. by-test (eqb j i) (λ t. rw (eqb-true j i t) (omega arith))
+          (λ t. let m = eqb-false j i t in omega (arith, end-there d i at e h (l .directory) j m, l .within j q));
+      start = λ j q. by-test (eqb j i) (λ t. rw (eqb-true j i t) (cursor-set-same (curFrom e xs) i at (omega (arith, l .cursors)) ∙ sym sh))
+          (λ t. let m = eqb-false j i t in cursor-set-other (curFrom e xs) i at j m ∙ l .start j q ∙ sym (start-there d i at e h (l .directory) j m));
+    }
+
+laid : (xs : List Stream) (at : ℕ) → inDirectory xs ≡ true → Laid at xs
+unfolding inDirectory
+laid [] at e = record {
+  directory = no-directory at;
+  cursors = no-cursors at;
+  ordered = λ j h. omega (arith, no-start at j h);
+  within = λ j h. omega (arith, no-end at j h);
+  start = λ j h. no-cursor at j h ∙ sym (no-start at j h);
+}
+laid (x ∷ xs) at e =
+    let h = both-true (both (leb (x .position) 128) (leb (x .stream) 9)) (inDirectory xs) e in
+    let k = both-true (leb (x .position) 128) (leb (x .stream) 9) (h .0) in
+    laid-more x xs at (leb-true _ _ (k .0)) (leb-true _ _ (k .1)) (laid xs (at + length (x .bytes)) (h .1))
+
+module _ (xs : List Stream) (ok : inDirectory xs ≡ true) where
+  starts-laid : starts (dirFrom 0 xs) ≡ curFrom 0 xs
+  unfolding cursorOf
+  starts-laid =
+      let l : Laid 0 xs = laid xs 0 ok in
+      ext-getD 0 (starts (dirFrom 0 xs)) (curFrom 0 xs) (starts-length (dirFrom 0 xs) ∙ sym (l .cursors))
+      (λ j h. let k : j < 1290 = omega (arith, starts-length (dirFrom 0 xs)) in starts-cursor (dirFrom 0 xs) j k ∙ sym (l .start j k))
+
+  -- such a block opens
+  pub opens-over : (count : ℕ) → count ≤ 65536 → Fresh (bytesIn xs) (dirFrom 0 xs) count (openOver count xs)
+  unfolding openOver
+  opens-over count h =
+      let l : Laid 0 xs = laid xs 0 ok in
+      record {
+        old = curFrom 0 xs;
+        state = state count 0 0 0;
+        opens = sym (opens-fresh (length (bytesIn xs)) (dirFrom 0 xs) count (curFrom 0 xs)
+            (sound-of (length (bytesIn xs)) (dirFrom 0 xs) (curFrom 0 xs) (l .directory) (l .cursors) (l .ordered) (λ j k. omega (arith, l .within j k))) h);
+        begins = refl;
+      }
+
+-- over tables that are right a read goes on to the name, and so do reads in a row
+unfoldable pub nexts : List ℕ → List ℕ → ℕ → Lent → Lent
+nexts bytes dir zero l = l
+nexts bytes dir (suc n) l = nexts bytes dir n (left (nextOf (source bytes dir (l .cur)) (l .kept)))
+
+module _ (bytes dir : List ℕ) where
+  read-next : (l : Lent) → Right bytes dir l → read bytes dir l ≡ nextOf (source bytes dir (l .cur)) (l .kept)
+  unfolding read
+  read-next l r = ready-reads (source bytes dir (l .cur)) (l .kept) (record { opened = r .opened; counts = r .counts })
+
+  run-next : (n : ℕ) (l : Lent) → Right bytes dir l → (run bytes dir l (replicate n reading) ≡ nexts bytes dir n l) × Right bytes dir (run bytes dir l (replicate n reading))
+  unfolding run after nexts
+  run-next zero l r = (refl, r)
+  run-next (suc n) l r =
+      let h = run-next n (left (read bytes dir l)) (after-right bytes dir l reading r) in
+      (h .0 ∙ ap (λ (o : Outcome). nexts bytes dir n (left o)) (read-next l r), h .1)
+
+-- the same, with each cursor put at its start at once
+unfoldable pub quick : ℕ → List Stream → Told
+quick n xs =
+    let l = nexts (bytesIn xs) (dirFrom 0 xs) n (lent (curFrom 0 xs) (keeping (state (n + 1) 0 0 0) (replicate 10 0) (replicate 20 0) (replicate 10 0))) in
+    told (nextOf (source (bytesIn xs) (dirFrom 0 xs) (l .cur)) (l .kept))
+
+pub over : (n : ℕ) (xs : List Stream) → n < 65536 → inDirectory xs ≡ true → readOver n xs ≡ quick n xs
+unfolding readOver quick openOver
+over n xs h ok =
+    let b : List ℕ = bytesIn xs in
+    let d : List ℕ = dirFrom 0 xs in
+    let l : Lent = openOver (n + 1) xs in
+    let r = run-next b d n l (fresh-right b d (n + 1) l (opens-over xs ok (n + 1) (omega arith))) in
+    let e : l ≡ lent (curFrom 0 xs) (l .kept) = ap (λ (c : List ℕ). lent c (l .kept)) (starts-laid xs ok) in
+    ap told (read-next b d (run b d l (replicate n reading)) (r .1) ∙ ap (λ (z : Lent). nextOf (source b d (z .cur)) (z .kept)) (r .0 ∙ ap (nexts b d n) e))

@@ -1,0 +1,14 @@
+-- The demands, each in a file of its own; their statements are in specs/.
+pub mod Lemmas
+-- the twelve bench cases marked P
+pub mod Bench
+-- demand 1: a refused call alters nothing
+pub mod Untouched
+-- each refusal of a read where the words apply
+pub mod Refusals
+-- "done" and 10
+pub mod Done
+-- a read that keeps a name adds that name and alters nothing else
+pub mod Adds
+-- demand 3: any sequence of calls from a fresh start
+pub mod Demand3

@@ -1,0 +1,77 @@
+-- Demand 3: what holds of the kept tables at all times.
+use Prim.Native.Nat.{ℕ, _+_, _≤_, _<_}
+use mathlib.Core.Path.{_≡_}
+use mathlib.Core.List.{List}
+use lib.ListN.{getD}
+use Rattle.block.specs.declared.Refusal.{Refusal}
+use Rattle.block.specs.declared.Refusal.the-variants as refusal
+use Rattle.block.specs.Open.{Open}
+use Rattle.kept.specs.Tables.{Kept, entryAt, rowAt}
+use Rattle.kept.specs.Inside.{Counted, TextInside, RowsInside, RowInside}
+use Rattle.reading.specs.declared.Answer.the-variants as answer
+use Rattle.claims.specs.declared.Verdict.the-variants.{Confirmed, Denied, Refused}
+use Rattle.claims.specs.Claims.{nameText}
+use Rattle.demands.specs.Printing.{rowText, rowPrints, rowsPrint}
+use Rattle.demands.specs.Refusals.{ByRule}
+use Rattle.demands.specs.Runs.{Lent, Reads, read, claimed, nameAt}
+
+-- a row: its kind and values are in order, its text is inside the kept text and is what the row prints
+pub record RowRight (used : ℕ) (text rows : List ℕ) (i : ℕ) : Type 0 where
+  pub fits : RowInside used (rowAt rows i)
+  pub prints : rowPrints text (rowAt rows i) ≡ rowText text (rowAt rows i)
+
+-- the name that added a row: the row is one of its rows, and the row's text is inside its text
+pub record Home (m : Kept) (j : ℕ) : Type 0 where
+  pub name : ℕ
+  pub kept : name < m .state .names
+  pub from : entryAt (m .names) name .first ≤ j
+  pub to : j < entryAt (m .names) name .first + entryAt (m .names) name .rows
+  pub starts : entryAt (m .names) name .start ≤ rowAt (m .rows) j .start
+  pub ends : rowAt (m .rows) j .start + rowAt (m .rows) j .length ≤ entryAt (m .names) name .start + entryAt (m .names) name .length
+
+-- a distance of name i: 0 for name 0, and for a later name such that the reference points to a lower number
+abbrev pub Refers : ℕ → ℕ → Type 0
+Refers i d = (i ≡ 0 → d ≡ 0) × (1 ≤ i → (1 ≤ d) × (d ≤ i))
+
+-- a name: its text of 1 to 254 bytes and the byte 10 after it are in the used part, and so are its 1 to 127 rows;
+-- those, printed end to end, are its text; its reference points to a lower number
+pub record NameRight (m : Kept) (i : ℕ) : Type 0 where
+  pub text : TextInside (m .state) (entryAt (m .names) i)
+  pub rows : RowsInside (m .state) (entryAt (m .names) i)
+  pub closed : entryAt (m .names) i .start + entryAt (m .names) i .length < m .state .text
+  pub ended : getD (m .text) (entryAt (m .names) i .start + entryAt (m .names) i .length) 0 ≡ 10
+  pub prints : rowsPrint (m .text) (m .rows) (entryAt (m .names) i .first) (entryAt (m .names) i .rows) ≡ nameText (m .text) (entryAt (m .names) i)
+  pub refers : Refers i (entryAt (m .names) i .distance)
+
+-- all that is kept, and the cursors
+pub record Right (bytes dir : List ℕ) (l : Lent) : Type 0 where
+  pub opened : Open bytes dir (l .cur)
+  pub counts : Counted (l .kept)
+  pub rows : (i : ℕ) → i < l .kept .state .rows → RowRight (l .kept .state .text) (l .kept .text) (l .kept .rows) i
+  pub homes : (i : ℕ) → i < l .kept .state .rows → Home (l .kept) i
+  pub names : (i : ℕ) → i < l .kept .state .names → NameRight (l .kept) i
+
+-- a claim: on a name already read it is confirmed if its bytes are all of that name's bytes and nothing else, denied otherwise;
+-- on a later name it is refused as not yet read
+pub record Judged (l : Lent) (number : ℕ) (claim : List ℕ) : Type 0 where
+  pub confirmed : number < l .kept .state .names → claim ≡ nameAt l number → claimed l number claim ≡ Confirmed
+  pub only : claimed l number claim ≡ Confirmed → (number < l .kept .state .names) × (claim ≡ nameAt l number)
+  pub denied : number < l .kept .state .names → (claim ≡ nameAt l number → ⊥) → claimed l number claim ≡ Denied
+  pub unread : l .kept .state .names ≤ number → claimed l number claim ≡ Refused (refusal.At 11 number)
+  pub never-13 : (claimed l number claim ≡ Refused (refusal.Plain 13) → ⊥) × (claimed l number claim ≡ Refused (refusal.At 13 number) → ⊥)
+
+-- a refusal of a read that is no fault of the memory: 10 for what is left unread, or 2 to 9 for the name being read
+pub data Sane (l : Lent) : Refusal → Type 0 where
+  left-over : l .kept .state .names ≡ l .kept .state .count → Sane l (refusal.Plain 10)
+  by-rules : (r : ℕ) → ByRule r → Sane l (refusal.At r (l .kept .state .names))
+
+-- all of demand 3, for a memory z that came from a fresh start l
+pub record Demand3 (bytes dir : List ℕ) (l z : Lent) : Type 0 where
+  -- every kept name's tokens, printed end to end, are that name; each later name's reference points to a lower number
+  pub right : Right bytes dir z
+  -- every claim is answered by the name's bytes, or refused as not yet read
+  pub claims : (number : ℕ) (claim : List ℕ) → Judged z number claim
+  -- what is kept is what as many reads in a row keep, whatever was claimed or refused in between
+  pub reads : Reads bytes dir l z
+  -- no read is refused for what is kept
+  pub refusals : (r : Refusal) → read bytes dir z .answer ≡ answer.Refused r → Sane z r

@@ -1,0 +1,70 @@
+-- Calls one after another over one block, the memory handed on as each left it.
+use Prim.Native.Nat.{ℕ, suc}
+use mathlib.Core.Path.{_≡_}
+use mathlib.Core.List.{List, [], _∷_}
+use lib.ListN.{length}
+use Rattle.block.specs.declared.Opened.the-variants as opened
+use Rattle.block.specs.declared.State.{State}
+use Rattle.block.specs.Block.{openOf, opening}
+use Rattle.kept.specs.Tables.{Kept, entryAt}
+use Rattle.steps.specs.Source.{source}
+use Rattle.reading.specs.declared.Answer.the-variants as answer
+use Rattle.reading.specs.Reads.{Outcome, readOf}
+use Rattle.claims.specs.declared.Verdict.{Verdict}
+use Rattle.claims.specs.Claims.{nameText, claimOf}
+
+-- the memory that calls hand on: the cursors, and the state with the text buffer and both tables
+pub record Lent : Type 0 where
+  pub cur : List ℕ
+  pub kept : Kept
+
+abbrev pub lent : List ℕ → Kept → Lent
+lent c m = record { cur = c; kept = m }
+
+-- a read over what is lent
+unfoldable pub read : List ℕ → List ℕ → Lent → Outcome
+read bytes dir l = readOf (source bytes dir (l .cur)) (l .kept)
+
+-- the memory that it leaves
+unfoldable pub left : Outcome → Lent
+left o = lent (o .cur) (o .kept)
+
+-- so many reads in a row, each of which keeps a name, lead from one memory to another
+pub data Keeps (bytes dir : List ℕ) : ℕ → Lent → Lent → Type 0 where
+  none : (l : Lent) → Keeps bytes dir 0 l l
+  next : (n i : ℕ) (l z : Lent) → read bytes dir l .answer ≡ answer.Kept i → Keeps bytes dir n (left (read bytes dir l)) z → Keeps bytes dir (suc n) l z
+
+-- some number of reads, each of which keeps a name
+pub record Reads (bytes dir : List ℕ) (l z : Lent) : Type 0 where
+  pub names : ℕ
+  pub reads : Keeps bytes dir names l z
+
+-- a fresh start: opening accepts the block, whatever the cursors and the buffers held
+pub record Fresh (bytes dir : List ℕ) (count : ℕ) (l : Lent) : Type 0 where
+  pub old : List ℕ
+  pub state : State
+  pub opens : openOf (length bytes) dir count old ≡ opening (opened.Fresh state) (l .cur)
+  pub begins : l .kept .state ≡ state
+
+-- a call on the open block: a read, or a claim that a name has these bytes
+pub data Call : Type 0 where
+  reading : Call
+  claiming : ℕ → List ℕ → Call
+
+-- the memory after a call, refused or not
+unfoldable pub after : List ℕ → List ℕ → Lent → Call → Lent
+after bytes dir l reading = left (read bytes dir l)
+after bytes dir l (claiming number claim) = l
+
+-- the memory after any calls, each handed what the one before left
+unfoldable pub run : List ℕ → List ℕ → Lent → List Call → Lent
+run bytes dir l [] = l
+run bytes dir l (c ∷ cs) = run bytes dir (after bytes dir l c) cs
+
+-- what a claim answers over what is lent
+unfoldable pub claimed : Lent → ℕ → List ℕ → Verdict
+claimed l number claim = claimOf number claim (l .kept .state) (l .kept .text) (l .kept .names)
+
+-- the bytes of a kept name
+unfoldable pub nameAt : Lent → ℕ → List ℕ
+nameAt l i = nameText (l .kept .text) (entryAt (l .kept .names) i)

@@ -1,0 +1,5 @@
+pub mod Judgement
+pub mod Cursors
+pub mod Growing
+pub mod Turns
+pub mod Frames

@@ -1,0 +1,351 @@
+-- A name kept token by token: the memory holds it as far as it is read, and the rest of it is what it was.
+use Prim.Native.Nat.{ℕ, zero, suc, _+_, _-_, _*_, _^_, _≤_, _<_}
+use mathlib.Core.Path.{_≡_, refl, sym, ap, _∙_, subst}
+use mathlib.Core.Bool.{Bool, true, false}
+use mathlib.Core.List.{List, [], _∷_, _++_}
+use native.Mathlib.Omega.{arith}
+use borrow.Author.Tests.{eqb-false}
+use lib.Dec.{eqb}
+use lib.ListN.{length, take, getD, length-append}
+use Rattle.base.specs.Choice.{pick}
+use Rattle.base.specs.Memory.{written}
+use Rattle.base.proofs.Choice.{pick-true, pick-false, by-test}
+use Rattle.base.proofs.Memory.{length-written, written-next, written-none}
+use Rattle.spans.specs.declared.Cursor.{Cursor}
+use Rattle.spans.specs.declared.NextByte.{NextByte}
+use Rattle.spans.specs.declared.NextByte.the-variants as byte
+use Rattle.block.specs.Block.{spanOf, endOf, cursorOf}
+use Rattle.block.specs.Open.{Open}
+use Rattle.tokens.specs.declared.TokenType.{TokenType}
+use Rattle.tokens.specs.declared.TokenType.the-variants as type
+use Rattle.tokens.specs.declared.Token.{Token}
+use Rattle.tokens.specs.Types.{typeOf}
+use Rattle.tokens.specs.Tokens.{bytesOf, lengthOf, rowOf}
+use Rattle.tokens.specs.Inside.{Inside, KeptBelow}
+use Rattle.tokens.proofs.Laws.{length-bytes, length-row, bytes-same, below-more}
+use Rattle.tokens.proofs.Texts.{take-written}
+use Rattle.kept.proofs.Frame.{alike-written}
+use Rattle.steps.specs.declared.Step.{Step}
+use Rattle.steps.specs.declared.Step.the-variants as step
+use Rattle.steps.specs.Source.{Source, source, Earlier, earlier, byteIn}
+use Rattle.steps.specs.Steps.{typedStep, stepAt}
+use Rattle.steps.specs.Sound.{Rows, Below, reach}
+use Rattle.steps.proofs.Laws.{Known, Given, given, Moved, Ended, ended, rows-reach}
+use Rattle.steps.proofs.Frame.{byte-in-same, step-frame, rows-same}
+use Rattle.names.specs.Names.{Draft, draft, Named, named, refused, past, typeIn, valuePast, grown, printable, onward, nameFrom, nameOf}
+use Rattle.names.specs.Names as names
+use Rattle.names.specs.Judge.{draftOf}
+use Rattle.names.specs.Moves.{Movable}
+use Rattle.names.specs.Keeps.{Memory, memory, putToken, putName, Roomy}
+use Rattle.names.proofs.Cursors.{open-token, past-later, value-later}
+use Rattle.names.proofs.Growing.{Grows, grows, Alike, name-same, printable-short}
+
+never-named : {r : ℕ} {d : Draft} → refused r ≡ named d → ⊥
+never-named q = let z : _≡_ {A = ℕ} 0 1 = cc in omega arith
+
+pub step-of : (s : Source) (e : Earlier) (p : ℕ) {found : NextByte} {r : Step} → found ≡ byteIn s p 0 → r ≡ typedStep s e p found → r ≡ stepAt s e p
+unfolding stepAt
+step-of s e p f q = q ∙ ap (typedStep s e p) f
+
+pub token-put : (bytes text rows cur : List ℕ) (t : Token) (ty : TokenType) (p c at row : ℕ) {text' rows' cur' : List ℕ}
+    → text' ≡ written text at (bytesOf bytes text t) → rows' ≡ written rows (5 * row) (rowOf t at) → cur' ≡ valuePast ty p c (past cur (spanOf p 0) 1)
+    → memory text' rows' cur' ≡ putToken bytes (memory text rows cur) t ty p c at row
+unfolding putToken
+token-put bytes text rows cur t ty p c at row e f g = cc
+
+-- what lies before position p is kept, and what is read from there on is the rest of the name D
+pub record Going (bytes dir text₀ rows₀ : List ℕ) (first count used row : ℕ) (D : Draft) (cur text rows : List ℕ) (p at : ℕ) : Type 0 where
+  pub d : Draft
+  pub low : 1 ≤ p
+  pub high : p ≤ 128
+  pub texts : text ≡ written text₀ used (d .text)
+  pub table : rows ≡ written rows₀ (5 * row) (d .rows)
+  pub cursors : cur ≡ d .cur
+  pub place : at ≡ used + length (d .text)
+  pub short : length (d .text) ≤ 254
+  pub counted : p ≡ d .count + 1
+  pub fives : length (d .rows) ≡ 5 * d .count
+  pub opened : Open bytes dir cur
+  pub known : Rows used (earlier text rows first count)
+  pub goes : nameFrom (source bytes dir cur) (earlier text rows first count) used (129 - p) p d ≡ named D
+  pub lengthText : length text ≡ length text₀
+  pub lengthRows : length rows ≡ length rows₀
+  pub belowText : Below 256 text
+  pub belowRows : Below (2 ^ 32) rows
+
+pub begun : (bytes dir cur text rows : List ℕ) (first count used row : ℕ) (n : Named) → nameOf (source bytes dir cur) (earlier text rows first count) used cur ≡ n
+    → n ≡ named (draftOf n) → Open bytes dir cur → Rows used (earlier text rows first count) → Below 256 text → Below (2 ^ 32) rows
+    → Going bytes dir text rows first count used row (draftOf n) cur text rows 1 used
+unfolding nameOf
+begun bytes dir cur text rows first count used row n q w o k bt br =
+    record {
+      d = draft [] [] 0 cur;
+      low = omega arith;
+      high = omega arith;
+      texts = sym (written-none text used []);
+      table = sym (written-none rows (5 * row) []);
+      cursors = refl;
+      place = omega arith;
+      short = omega arith;
+      counted = refl;
+      fives = refl;
+      opened = o;
+      known = k;
+      goes = q ∙ w;
+      lengthText = refl;
+      lengthRows = refl;
+      belowText = bt;
+      belowRows = br;
+    }
+
+module _ (bytes dir text₀ rows₀ : List ℕ) (first count used row : ℕ) (n : Named) (room : Roomy n (first + count) used row text₀ rows₀)
+    (bytesBelow : Below 256 bytes) (dirBelow : Below (2 ^ 32) dir)
+    (cur text rows : List ℕ) (p at : ℕ) (g : Going bytes dir text₀ rows₀ first count used row (draftOf n) cur text rows p at) where
+  known-at : (q : ℕ) → p ≤ q → q ≤ 128 → Known (source bytes dir cur) (earlier text rows first count) used q
+  known-at q h l =
+      record { opened = g .opened; rows = g .known; first = omega (arith, g .low); last = l; bytes = bytesBelow; texts = g .belowText; numbers = g .belowRows }
+
+  -- what a step asks for
+  pub step-asks : Open bytes dir cur × (Rows (reach text) (earlier text rows first count) × ((first + count < 2 ^ 32) × ((1 ≤ p) × (p ≤ 128))))
+  step-asks = (
+    g .opened,
+    (
+      rows-reach used (earlier text rows first count) (g .known) (omega (arith, room .near)),
+      (omega (arith, room .behind, room .few), (g .low, g .high)),
+    ),
+  )
+
+  one : onward (source bytes dir cur) (earlier text rows first count) used p (g .d) (stepAt (source bytes dir cur) (earlier text rows first count) p)
+      (nameFrom (source bytes dir cur) (earlier text rows first count) used (129 - (p + 1)) (p + 1)) ≡ named (draftOf n)
+  unfolding nameFrom
+  one = let e : 129 - p ≡ suc (129 - (p + 1)) = omega (arith, g .high) in rw e at (g .goes)
+
+  pub never-refuses : {r : ℕ} → stepAt (source bytes dir cur) (earlier text rows first count) p ≡ step.Refused r → ⊥
+  unfolding onward
+  never-refuses q = never-named (rw q at one)
+
+  end-of : stepAt (source bytes dir cur) (earlier text rows first count) p ≡ step.End → names.ended p (g .d) ≡ draftOf n
+  unfolding onward
+  end-of q =
+      let o = rw q at one in
+      by-test (eqb (length (g .d .text)) 0)
+      (λ y. absurd (never-named (sym (pick-true (refused 8) (named (names.ended p (g .d))) y) ∙ o)))
+      (λ y. let z = sym (pick-false (refused 8) (named (names.ended p (g .d))) y) ∙ o in (cc))
+
+  -- END: byte 10 behind the text
+  pub ends : {text' cur' : List ℕ} → stepAt (source bytes dir cur) (earlier text rows first count) p ≡ step.End
+      → cur' ≡ past cur (spanOf p 0) 1 → text' ≡ written text at (10 ∷ []) → memory text' rows cur' ≡ putName used row text₀ rows₀ (draftOf n)
+  unfolding putName names.ended
+  ends {text'} {cur'} q c t =
+      let w = end-of q in
+      let r = room .bytes in
+      let dt : g .d .text ≡ draftOf n .text = ap (λ (x : Draft). x .text) w in
+      let dr : g .d .rows ≡ draftOf n .rows = ap (λ (x : Draft). x .rows) w in
+      let dc : past (g .d .cur) (spanOf p 0) 1 ≡ draftOf n .cur = ap (λ (x : Draft). x .cur) w in
+      let dl = ap length dt in
+      let te : text' ≡ written text₀ used (draftOf n .text ++ (10 ∷ [])) =
+      t ∙ ap (λ (x : ℕ). written text x (10 ∷ [])) (g .place)
+      ∙ ap (λ (x : List ℕ). written x (used + length (g .d .text)) (10 ∷ [])) (g .texts)
+      ∙ written-next text₀ used (g .d .text) (10 ∷ []) (omega arith)
+      ∙ ap (λ (x : List ℕ). written text₀ used (x ++ (10 ∷ []))) dt in
+      let re : rows ≡ written rows₀ (5 * row) (draftOf n .rows) = g .table ∙ ap (λ (x : List ℕ). written rows₀ (5 * row) x) dr in
+      let ce : cur' ≡ draftOf n .cur = c ∙ ap (λ (x : List ℕ). past x (spanOf p 0) 1) (g .cursors) ∙ dc in
+      cc
+
+  end-there : stepAt (source bytes dir cur) (earlier text rows first count) p ≡ step.End → cursorOf cur (spanOf p 0) + 1 < 2 ^ 32
+  unfolding endOf
+  end-there q =
+      let w = ended (source bytes dir cur) (earlier text rows first count) used p (known-at p (omega arith) (g .high)) q .there in
+      omega (arith, dirBelow (2 * spanOf p 0 + 1))
+
+  -- what moving past END and writing its byte 10 ask for
+  pub end-room : stepAt (source bytes dir cur) (earlier text rows first count) p ≡ step.End → at + 1 ≤ length text
+  unfolding names.ended
+  end-room q =
+      let dl = ap (λ (x : Draft). length (x .text)) (end-of q) in
+      omega (arith, room .bytes, g .place, g .lengthText)
+
+  pub end-moves : stepAt (source bytes dir cur) (earlier text rows first count) p ≡ step.End
+      → ((length cur ≡ 1290) × ((p ≤ 128) × (0 ≤ 9))) × (cursorOf cur (spanOf p 0) + 1 < 2 ^ 32)
+  end-moves q = ((g .opened .table, (g .high, omega arith)), end-there q)
+
+  module _ (t : Token) (c : Cursor) (q : stepAt (source bytes dir cur) (earlier text rows first count) p ≡ step.Got t c) where
+    next : Draft
+    next = grown (source bytes dir cur) (earlier text rows first count) used p t (c .0) (g .d)
+
+    told : Given (source bytes dir cur) (earlier text rows first count) used p t c
+    told = given (source bytes dir cur) (earlier text rows first count) used p (known-at p (omega arith) (g .high)) q
+
+    prints : printable (bytesOf bytes text t) (length (g .d .text)) ≡ true
+    unfolding onward
+    prints =
+        let o = rw q at one in
+        by-test (printable (bytesOf bytes text t) (length (g .d .text)))
+        (λ y. y)
+        (λ y. absurd (never-named (sym (pick-false _ (refused 8) y) ∙ o)))
+
+    rest : nameFrom (source bytes dir cur) (earlier text rows first count) used (129 - (p + 1)) (p + 1) next ≡ named (draftOf n)
+    unfolding onward next
+    rest = sym (pick-true (nameFrom (source bytes dir cur) (earlier text rows first count) used (129 - (p + 1)) (p + 1) next) (refused 8) prints) ∙ rw q at one
+
+    wide : length (bytesOf bytes text t) ≡ lengthOf t
+    wide = length-bytes bytes text t (told .inside)
+
+    next-text : length (next .text) ≡ length (g .d .text) + lengthOf t
+    unfolding next grown
+    next-text = length-append (g .d .text) (bytesOf bytes text t) ∙ ap (λ (x : ℕ). length (g .d .text) + x) wide
+
+    next-rows : length (next .rows) ≡ 5 * next .count
+    unfolding next grown
+    next-rows =
+        length-append (g .d .rows) (rowOf t (used + length (g .d .text)))
+        ∙ omega (arith, length-row t (used + length (g .d .text)), g .fives)
+
+    next-count : next .count ≡ g .d .count + 1
+    unfolding next grown
+    next-count = refl
+
+    next-short : length (g .d .text) + lengthOf t ≤ 254
+    next-short = omega (arith, printable-short (bytesOf bytes text t) (length (g .d .text)) prints, wide)
+
+    pub place-fits : at + lengthOf t < 2 ^ 32
+    place-fits = omega (arith, next-short, g .place, room .near)
+
+    -- there is room for the token
+    pub token-room : (at + lengthOf t ≤ length text) × (5 * (row + (p - 1)) + 5 ≤ length rows)
+    token-room =
+        let w = grows (source bytes dir cur) (earlier text rows first count) used (129 - (p + 1)) (p + 1) next (draftOf n) rest in (
+          omega (arith, w .longer, next-text, room .bytes, g .place, g .lengthText),
+          omega (arith, w .more, next-count, room .table, g .counted, g .lengthRows),
+        )
+
+    end-below : (i : ℕ) → endOf dir i < 2 ^ 32
+    unfolding endOf
+    end-below i = dirBelow (2 * i + 1)
+
+    type-here : typeIn (byteIn (source bytes dir cur) p 0) ≡ typeOf (told .code)
+    unfolding typeIn
+    type-here = rw (told .typed)
+
+    width-there : typeOf (told .code) ≡ type.Digits0 → cursorOf cur (spanOf p 4) + 1 ≤ endOf dir (spanOf p 4)
+    width-there h = subst (λ (ty : TokenType). Moved (source bytes dir cur) p (c .0) ty) h (told .moved) .1
+
+    -- what keeping the token asks for
+    pub asks : (ty : TokenType) → ty ≡ typeIn (byteIn (source bytes dir cur) p 0)
+        → Inside bytes text t × (KeptBelow at t
+        × (((at + lengthOf t ≤ length text) × (5 * (row + (p - 1)) + 5 ≤ length rows))
+        × (((length cur ≡ 1290) × ((p ≤ 128) × (cursorOf cur (spanOf p 0) + 1 < 2 ^ 32))) × Movable ty p cur)))
+    asks ty e = (
+      told .inside,
+      (
+        below-more used at t (told .below) (omega (arith, g .place)),
+        (
+          token-room,
+          (
+            (g .opened .table, (g .high, omega (arith, told .there, end-below (spanOf p 0)))),
+            λ h. omega (arith, width-there (sym type-here ∙ sym e ∙ h), end-below (spanOf p 4)),
+          ),
+        ),
+      ),
+    )
+
+    module _ (ty : TokenType) (text' rows' cur' : List ℕ) (e : ty ≡ typeIn (byteIn (source bytes dir cur) p 0))
+        (m : memory text' rows' cur' ≡ putToken bytes (memory text rows cur) t ty p (c .0) at (row + (p - 1))) where
+      text-is : text' ≡ written text at (bytesOf bytes text t)
+      unfolding putToken
+      text-is = ap (λ (x : Memory). x .text) m
+
+      rows-is : rows' ≡ written rows (5 * (row + (p - 1))) (rowOf t at)
+      unfolding putToken
+      rows-is = ap (λ (x : Memory). x .rows) m
+
+      cur-is : cur' ≡ valuePast (typeIn (byteIn (source bytes dir cur) p 0)) p (c .0) (past cur (spanOf p 0) 1)
+      unfolding putToken
+      cur-is = ap (λ (x : Memory). x .cur) m ∙ ap (λ (x : TokenType). valuePast x p (c .0) (past cur (spanOf p 0) 1)) e
+
+      later : (j : ℕ) → 10 * (p + 1) ≤ j → cursorOf cur j ≡ cursorOf cur' j
+      later j h =
+          sym (ap (λ (x : List ℕ). cursorOf x j) cur-is
+          ∙ value-later (typeIn (byteIn (source bytes dir cur) p 0)) (past cur (spanOf p 0) 1) p (c .0) j h
+          ∙ past-later cur p 0 1 j (omega arith) h)
+
+      span-later : (q i : ℕ) → p + 1 ≤ q → i ≤ 9 → cursorOf cur (spanOf q i) ≡ cursorOf cur' (spanOf q i)
+      unfolding spanOf
+      span-later q i h l = later (10 * q + i) (omega arith)
+
+      take-same : take used text ≡ take used text'
+      take-same =
+          sym (ap (take used) text-is
+          ∙ take-written text at (bytesOf bytes text t) used (omega (arith, g .place)) (omega (arith, token-room .0)))
+
+      rows-alike : (j : ℕ) → j < 5 * (first + count) → getD rows j 0 ≡ getD rows' j 0
+      rows-alike j h =
+          sym (ap (λ (x : List ℕ). getD x j 0) rows-is
+          ∙ alike-written rows (5 * (row + (p - 1))) (rowOf t at) (first + count) (omega (arith, room .behind)) (omega (arith, token-room .1)) j h)
+
+      length-text : length text' ≡ length text
+      length-text = ap length text-is ∙ length-written text at (bytesOf bytes text t) (omega (arith, token-room .0, wide))
+
+      length-rows : length rows' ≡ length rows
+      length-rows = ap length rows-is ∙ length-written rows (5 * (row + (p - 1))) (rowOf t at) (omega (arith, token-room .1, length-row t at))
+
+      alike : Alike (source bytes dir cur) (source bytes dir cur') (earlier text rows first count) (earlier text' rows' first count) (p + 1)
+      alike =
+          record {
+            steps = λ q h l. sym (step-frame bytes dir cur cur' text text' rows rows' first count used q (g .known) (omega arith) (λ i k. span-later q i h k) take-same rows-alike);
+            types = λ q h l. sym (byte-in-same bytes dir cur cur' q (λ i k. span-later q i h k) 0 (omega arith));
+            bytes =
+                λ q h l u v r.
+                let w = given (source bytes dir cur) (earlier text rows first count) used q (known-at q (omega arith) l) r in
+                sym (bytes-same bytes text text' used u (w .inside) (w .below) take-same);
+          }
+
+      text-grown : text' ≡ written text₀ used (next .text)
+      unfolding next grown
+      text-grown =
+          text-is ∙ ap (λ (x : ℕ). written text x (bytesOf bytes text t)) (g .place)
+          ∙ ap (λ (x : List ℕ). written x (used + length (g .d .text)) (bytesOf bytes text t)) (g .texts)
+          ∙ written-next text₀ used (g .d .text) (bytesOf bytes text t) (omega (arith, token-room .0, g .place, g .lengthText))
+
+      rows-grown : rows' ≡ written rows₀ (5 * row) (next .rows)
+      unfolding next grown
+      rows-grown =
+          let at-row : 5 * (row + (p - 1)) ≡ 5 * row + length (g .d .rows) = omega (arith, g .fives, g .counted) in
+          rows-is ∙ ap (λ (x : ℕ). written rows (5 * (row + (p - 1))) (rowOf t x)) (g .place)
+          ∙ ap (λ (x : ℕ). written rows x (rowOf t (used + length (g .d .text)))) at-row
+          ∙ ap (λ (x : List ℕ). written x (5 * row + length (g .d .rows)) (rowOf t (used + length (g .d .text)))) (g .table)
+          ∙ written-next rows₀ (5 * row) (g .d .rows) (rowOf t (used + length (g .d .text))) (omega (arith, token-room .1, g .fives, g .counted, g .lengthRows))
+
+      cur-grown : cur' ≡ next .cur
+      unfolding next grown
+      cur-grown =
+          cur-is ∙ ap (λ (x : List ℕ). valuePast (typeIn (byteIn (source bytes dir cur) p 0)) p (c .0) (past x (spanOf p 0) 1)) (g .cursors)
+
+      -- after a turn
+      pub turned : (w : ℕ) → w ≡ lengthOf t → Below 256 text' → Below (2 ^ 32) rows'
+          → Going bytes dir text₀ rows₀ first count used row (draftOf n) cur' text' rows' (p + 1) (at + w)
+      turned w k bt br =
+          record {
+            d = next;
+            low = omega arith;
+            high = omega (arith, told .before);
+            texts = text-grown;
+            table = rows-grown;
+            cursors = cur-grown;
+            place = omega (arith, next-text, g .place);
+            short = omega (arith, next-text, next-short);
+            counted = omega (arith, next-count, g .counted);
+            fives = next-rows;
+            opened = rw cur-is (open-token bytes dir cur (g .opened) (earlier text rows first count) p (g .high) q);
+            known =
+                rows-same text text' rows rows' first count used p (g .known) (g .low) take-same rows-alike
+                (omega (arith, token-room .0, g .place, length-text)) (omega (arith, length-rows, g .known .table));
+            goes =
+                name-same (source bytes dir cur) (source bytes dir cur') (earlier text rows first count) (earlier text' rows' first count) used
+                (129 - (p + 1)) (p + 1) next (omega (arith, told .before)) alike
+                ∙ rest;
+            lengthText = length-text ∙ g .lengthText;
+            lengthRows = length-rows ∙ g .lengthRows;
+            belowText = bt;
+            belowRows = br;
+          }

@@ -1,0 +1,45 @@
+use Rattle.names.proofs.Turns.{token-put}
+use denote.Ref.{now}
+use borrow.Author.Needs.{needs}
+use Rattle.names.proofs.keeping.keep_token.Statement.{statement}
+use Rattle.names.proofs.keeping.keep_token.Tie as tie
+
+put-requires : tie.Need-put-requires
+put-requires c κs = search needs
+
+put-row-requires : tie.Need-put-row-requires
+put-row-requires c κs = search needs
+
+advance-requires : tie.Need-advance-requires
+advance-requires c κs = search needs
+
+length-requires : tie.Need-length-requires
+length-requires c κs = search needs
+
+same-length : tie.Need-same-length
+same-length c = search needs
+
+same-length-2 : tie.Need-same-length-2
+same-length-2 c = search needs
+
+same-length-3 : tie.Need-same-length-3
+same-length-3 c = search needs
+
+returns : tie.Need-returns
+returns c = let a = c .before .before .before .before .before .before .before .before .before .before .before .before .before .before .before .before .before .args in (
+  c .length .ensures,
+  token-put (now (a .bytes)) (now (a .text)) (now (a .rows)) (now (a .cursors)) (a .t) (a .ty) (a .p .0) (a .c .0) (a .at) (a .row) (c .before .before .before .before .before .before .before .before .before .before .before .put .ensures) (c .before .before .before .before .before .before .before .put-row .ensures) (c .before .before .before .advance .ensures),
+)
+
+pub keep-token-spec : {M : Type 1} → statement M
+keep-token-spec =
+    tie.close
+    (tie.spec
+    put-requires
+    put-row-requires
+    advance-requires
+    length-requires
+    same-length
+    same-length-2
+    same-length-3
+    returns)

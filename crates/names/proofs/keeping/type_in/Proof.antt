@@ -1,0 +1,25 @@
+use Rattle.names.specs.Names.{typeIn}
+use mathlib.Core.Path.{_≡_, sym, ap, _∙_}
+use borrow.Author.Needs.{needs}
+use Rattle.names.proofs.keeping.type_in.Statement.{statement}
+use Rattle.names.proofs.keeping.type_in.Tie as tie
+
+enum-known-found : tie.Need-enum-known-found
+enum-known-found c = search needs
+
+type-of-requires : tie.Need-type-of-requires
+type-of-requires c κs = search needs
+
+enum-told : tie.Need-enum-told
+enum-told c = search needs
+
+returns : tie.Need-returns
+unfolding typeIn
+returns c = c .type-of .ensures ∙ sym (ap typeIn (c .before .before .found .given .1))
+
+returns-2 : tie.Need-returns-2
+unfolding typeIn
+returns-2 c = sym (ap typeIn (c .enum-told .given .1))
+
+pub type-in-spec : {M : Type 1} → statement M
+type-in-spec = tie.close (tie.spec enum-known-found type-of-requires enum-told returns returns-2)

@@ -1,0 +1,4 @@
+pub mod Names
+pub mod Judge
+pub mod Moves
+pub mod Keeps

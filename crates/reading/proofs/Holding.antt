@@ -1,0 +1,165 @@
+-- What a read needs holds again after it: the block is open, and the counts are judged. A read that keeps a name adds one.
+use Prim.Native.Nat.{ℕ, zero, suc, _+_, _-_, _*_, _^_, _≤_, _<_}
+use mathlib.Core.Path.{_≡_, refl, sym, ap, _∙_}
+use mathlib.Core.Bool.{Bool, true, false}
+use mathlib.Core.List.{List, [], _∷_, _++_}
+use native.Mathlib.Omega.{arith}
+use borrow.Author.Tests.{leb-true, eqb-true, eqb-false}
+use lib.Dec.{leb, eqb}
+use lib.ListN.{length, length-append}
+use Rattle.base.specs.Choice.{pick, both}
+use Rattle.base.specs.Memory.{written, part}
+use Rattle.base.proofs.Choice.{by-test, pick-true, pick-false}
+use Rattle.base.proofs.Memory.{length-written, length-part}
+use Rattle.spans.specs.declared.Distance.{Distance}
+use Rattle.block.specs.declared.State.{State}
+use Rattle.block.specs.declared.Refusal.{Refusal}
+use Rattle.block.specs.Block.{allAtEnd}
+use Rattle.block.specs.Open.{Open}
+use Rattle.block.proofs.Laws.{open-sound, open-inside}
+use Rattle.kept.specs.declared.Entry.{Entry}
+use Rattle.kept.specs.Tables.{Kept, keeping, room, entryAt}
+use Rattle.kept.specs.Judgement.{counts, earlierFits}
+use Rattle.kept.specs.Inside.{Counted, TextInside}
+use Rattle.kept.proofs.Laws.{earlier, counts-of}
+use Rattle.steps.specs.Source.{Source, source, Earlier}
+use Rattle.steps.proofs.Picks.{pick-holds}
+use Rattle.names.specs.Names.{Draft, draft, Named, named, refused, nameOf}
+use Rattle.names.proofs.Growing.{Grows}
+use Rattle.names.proofs.Frames.{name-bounds, name-open}
+use Rattle.reading.specs.declared.Head.{Head}
+use Rattle.reading.specs.declared.Head.the-variants as head
+use Rattle.reading.specs.declared.Answer.{Answer}
+use Rattle.reading.specs.declared.Answer.the-variants as answer
+use Rattle.reading.specs.Heads.{Headed}
+use Rattle.reading.specs.Reads.{Outcome, outcome, plain, atName, roomOf, roomFor, entryOf, kept, keepOf, headPast, dupOf, namedOf, diffOf, none, rowsOf, entryBack, dupJudged, diffJudged, headedOf, headOf, nextOf, readOf}
+use Rattle.reading.proofs.Heads.{head-same, head-open, dup-told, diff-told}
+use Rattle.reading.proofs.Entries.{Room, has-room}
+
+-- a read that keeps a name, after m
+pub record More (m : Kept) (o : Outcome) : Type 0 where
+  pub few : m .state .names < m .state .count
+  pub names : o .kept .state .names ≡ m .state .names + 1
+  pub count : o .kept .state .count ≡ m .state .count
+
+pub record Holds (bytes dir : List ℕ) (m : Kept) (o : Outcome) : Type 0 where
+  pub opened : Open bytes dir (o .cur)
+  pub counted : Counted (o .kept)
+  pub more : (n : ℕ) → o .answer ≡ answer.Kept n → More m o
+
+refused-not : {r : Refusal} {n : ℕ} → answer.Refused r ≡ answer.Kept n → ⊥
+refused-not q = let z : _≡_ {A = ℕ} 0 1 = cc in omega arith
+
+done-not : {n : ℕ} → answer.Done ≡ answer.Kept n → ⊥
+done-not q = let z : _≡_ {A = ℕ} 0 1 = cc in omega arith
+
+module _ (bytes dir cur text names rows : List ℕ) (st : State) (o : Open bytes dir cur) (k : Counted (keeping st text names rows)) where
+  at-holds : (n : ℕ) → Holds bytes dir (keeping st text names rows) (atName (source bytes dir cur) (keeping st text names rows) n)
+  unfolding atName
+  at-holds n = record { opened = o; counted = k; more = λ i q. absurd (refused-not q) }
+
+  plain-holds : (n : ℕ) → Holds bytes dir (keeping st text names rows) (plain (source bytes dir cur) (keeping st text names rows) n)
+  unfolding plain
+  plain-holds n = record { opened = o; counted = k; more = λ i q. absurd (refused-not q) }
+
+  done-holds : Holds bytes dir (keeping st text names rows) (outcome answer.Done cur (keeping st text names rows))
+  done-holds = record { opened = o; counted = k; more = λ i q. absurd (done-not q) }
+
+  module _ (few : st .names < st .count) where
+    module _ (d : Draft) (first many distance : ℕ) (p : Open bytes dir (d .cur)) (short : length (d .text) ≤ 254) (most : d .count ≤ 127)
+        (fives : length (d .rows) ≡ 5 * d .count) where
+      kept-holds : roomFor (keeping st text names rows) d ≡ true → Holds bytes dir (keeping st text names rows) (kept (keeping st text names rows) d first many distance)
+      unfolding roomFor kept
+      kept-holds h =
+          let r = has-room bytes dir cur text names rows st (length (d .text)) (d .count) h in
+          let t = length-append (d .text) (10 ∷ []) in
+          let lt = length-written text (st .text) (d .text ++ (10 ∷ [])) (omega (arith, r .texts)) in
+          let ln = length-written names (5 * st .names) (entryOf st (length (d .text)) first many distance) (omega (arith, r .entries)) in
+          let lr = length-written rows (5 * st .rows) (d .rows) (omega (arith, r .table)) in
+          record {
+            opened = p;
+            counted =
+                record {
+                  kept = omega arith;
+                  limit = k .limit;
+                  entries = omega (arith, r .entries);
+                  used = omega (arith, r .texts);
+                  most = omega (arith, k .most);
+                  rowsUsed = omega (arith, r .table);
+                  rowsMost = omega (arith, k .rowsMost);
+                };
+            more = λ n q. record { few = few; names = refl; count = refl };
+          }
+
+      keep-holds : Holds bytes dir (keeping st text names rows) (keepOf (source bytes dir cur) (keeping st text names rows) d first many distance)
+      unfolding keepOf
+      keep-holds =
+          pick-holds (Holds bytes dir (keeping st text names rows)) (roomFor (keeping st text names rows) d) _ _ kept-holds (λ h. at-holds 9)
+
+    dup-holds : (distance : ℕ) (x : Entry) → Headed (source bytes dir cur) 5 distance (st .names) → TextInside st x
+        → Holds bytes dir (keeping st text names rows) (dupOf (source bytes dir cur) (keeping st text names rows) distance x)
+    unfolding dupOf
+    dup-holds distance x g i =
+        let l = length-part text (x .start) (x .start + x .length) (omega arith) (omega (arith, i .ends, k .used)) in
+        keep-holds (draft (part text (x .start) (x .start + x .length)) [] 0 (headPast cur 5)) (x .first) (x .rows) distance
+        (head-open bytes dir cur 5 distance (st .names) o (omega arith) (omega arith) g) (omega (arith, i .most)) (omega arith) refl
+
+    named-holds : (distance : ℕ) (e : Earlier) → Headed (source bytes dir cur) 6 distance (st .names) → (n : Named)
+        → nameOf (source bytes dir cur) e (st .text) (headPast cur 6) ≡ n → Holds bytes dir (keeping st text names rows) (namedOf (source bytes dir cur) (keeping st text names rows) distance n)
+    unfolding namedOf
+    named-holds distance e g (named D) q =
+        let b = name-bounds (source bytes dir cur) e (st .text) (headPast cur 6) D q in
+        let p = head-open bytes dir cur 6 distance (st .names) o (omega arith) (omega arith) g in
+        keep-holds D (st .rows) (D .count) distance (name-open bytes dir cur e (st .text) (headPast cur 6) D p (head-same cur 6 (omega arith)) q)
+        (b .short (omega arith)) (omega (arith, b .few)) (b .fives refl)
+    named-holds distance e g (refused r) q = at-holds r
+
+    diff-holds : (distance : ℕ) (e : Earlier) → Headed (source bytes dir cur) 6 distance (st .names)
+        → Holds bytes dir (keeping st text names rows) (diffOf (source bytes dir cur) (keeping st text names rows) distance e)
+    unfolding diffOf
+    diff-holds distance e g = named-holds distance e g (nameOf (source bytes dir cur) e (st .text) (headPast cur 6)) refl
+
+    dup-judged-holds : (d : ℕ) → Headed (source bytes dir cur) 5 d (st .names)
+        → Holds bytes dir (keeping st text names rows) (dupJudged (source bytes dir cur) (keeping st text names rows) d)
+    unfolding entryBack
+    dup-judged-holds d g =
+        pick-holds (Holds bytes dir (keeping st text names rows)) (earlierFits (keeping st text names rows) (st .names - d)) _ _
+        (λ h. dup-holds d (entryAt names (st .names - d)) g (earlier (keeping st text names rows) (st .names - d) h .text))
+        (λ h. at-holds 13)
+
+    first-headed : (d : ℕ) → d ≡ 0 → Headed (source bytes dir cur) 6 d (st .names) → Headed (source bytes dir cur) 6 0 (st .names)
+    first-headed d z g = rw z at g
+
+    diff-judged-holds : (d : ℕ) → Headed (source bytes dir cur) 6 d (st .names)
+        → Holds bytes dir (keeping st text names rows) (diffJudged (source bytes dir cur) (keeping st text names rows) d)
+    diff-judged-holds d g =
+        pick-holds (Holds bytes dir (keeping st text names rows)) (eqb d 0) _ _
+        (λ z. diff-holds 0 (none (keeping st text names rows)) (first-headed d (eqb-true d 0 z) g))
+        (λ z.
+        pick-holds (Holds bytes dir (keeping st text names rows)) (earlierFits (keeping st text names rows) (st .names - d)) _ _
+        (λ h. diff-holds d (rowsOf (keeping st text names rows) (entryBack (keeping st text names rows) d)) g)
+        (λ h. at-holds 13))
+
+    headed-holds : (h : Head) → headOf (source bytes dir cur) (st .names) ≡ h
+        → Holds bytes dir (keeping st text names rows) (headedOf (source bytes dir cur) (keeping st text names rows) h)
+    unfolding headedOf
+    headed-holds (head.Dup d) q = dup-judged-holds (d .0) (dup-told (source bytes dir cur) (st .names) d q .1)
+    headed-holds (head.Diff d) q = diff-judged-holds (d .0) (diff-told (source bytes dir cur) (st .names) d q)
+    headed-holds (head.Refused r) q = at-holds r
+
+  pub next-holds : Holds bytes dir (keeping st text names rows) (nextOf (source bytes dir cur) (keeping st text names rows))
+  unfolding nextOf
+  next-holds =
+      pick-holds (Holds bytes dir (keeping st text names rows)) (eqb (st .names) (st .count)) _ _
+      (λ e. pick-holds (Holds bytes dir (keeping st text names rows)) (allAtEnd dir cur) _ _ (λ h. done-holds) (λ h. plain-holds 10))
+      (λ e.
+      let z = eqb-false (st .names) (st .count) e in
+      headed-holds (omega (arith, k .kept)) (headOf (source bytes dir cur) (st .names)) refl)
+
+  -- a read judges nothing more than that
+  pub read-next : readOf (source bytes dir cur) (keeping st text names rows) ≡ nextOf (source bytes dir cur) (keeping st text names rows)
+  unfolding readOf
+  read-next =
+      pick-true _ _ (open-sound bytes dir cur o)
+      ∙ pick-true _ _ (counts-of (keeping st text names rows) k)
+      ∙ pick-true _ _ (open-inside bytes dir cur o)

@@ -1,0 +1,18 @@
+use Rattle.base.proofs.Choice.{took, left}
+use borrow.Author.Tests.{eq-eqb, ne-eqb}
+use mathlib.Core.Path.{refl}
+use borrow.Author.Needs.{needs}
+use Rattle.reading.proofs.heading.diff_fits.Statement.{statement}
+use Rattle.reading.proofs.heading.diff_fits.Tie as tie
+
+returns : tie.Need-returns
+returns c = took _ _ (eq-eqb _ _ (c .if1 .taken)) refl
+
+dup-fits-requires : tie.Need-dup-fits-requires
+dup-fits-requires c κs = search needs
+
+returns-2 : tie.Need-returns-2
+returns-2 c = left _ _ (ne-eqb _ _ (c .before .if1 .left)) (c .dup-fits .ensures)
+
+pub diff-fits-spec : {M : Type 1} → statement M
+diff-fits-spec = tie.close (tie.spec returns dup-fits-requires returns-2)

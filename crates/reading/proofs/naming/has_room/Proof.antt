@@ -1,0 +1,54 @@
+use Rattle.kept.specs.Tables.{room}
+use Rattle.base.proofs.Choice.{took, left}
+use borrow.Author.Tests.{le-leb, lt-leb}
+use mathlib.Core.Path.{refl}
+use borrow.Author.Needs.{needs}
+use Rattle.reading.proofs.naming.has_room.Statement.{statement}
+use Rattle.reading.proofs.naming.has_room.Tie as tie
+
+cast-if1 : tie.Need-cast-if1
+cast-if1 c = search needs
+
+add-if1 : tie.Need-add-if1
+add-if1 c = search needs
+
+add-if1-2 : tie.Need-add-if1-2
+add-if1-2 c = search needs
+
+returns : tie.Need-returns
+returns c = left _ _ (lt-leb _ _ (c .if1 .taken)) refl
+
+cast-if2 : tie.Need-cast-if2
+cast-if2 c = search needs
+
+add-if2 : tie.Need-add-if2
+add-if2 c = search needs
+
+returns-2 : tie.Need-returns-2
+unfolding room
+returns-2 c = took _ _ (le-leb _ _ (c .before .before .if1 .left)) (left _ _ (lt-leb _ _ (c .if2 .taken)) refl)
+
+cast-result : tie.Need-cast-result
+cast-result c = search needs
+
+add-result : tie.Need-add-result
+add-result c = search needs
+
+returns-3 : tie.Need-returns-3
+unfolding room
+returns-3 c = took _ _ (le-leb _ _ (c .before .before .before .if1 .left)) (took _ _ (le-leb _ _ (c .before .if2 .left)) refl)
+
+pub has-room-spec : {M : Type 1} → statement M
+has-room-spec =
+    tie.close
+    (tie.spec
+    cast-if1
+    add-if1
+    add-if1-2
+    returns
+    cast-if2
+    add-if2
+    returns-2
+    cast-result
+    add-result
+    returns-3)

@@ -1,0 +1,72 @@
+use Rattle.reading.proofs.Loops.{Reads, reads-less, reads-on, reads-out}
+use Rattle.reading.specs.Blocks.{fresh, readsFrom}
+use Rattle.kept.specs.Tables.{keeping}
+use lib.ListN.{length}
+use borrow.Author.Needs.{needs}
+use Prim.Native.Nat.{ℕ, _+_, _-_}
+use mathlib.Core.Path.{_≡_, refl, sym, ap, _∙_}
+use Rattle.reading.proofs.reads.Statement.{statement}
+use Rattle.reading.proofs.reads.Tie as tie
+
+abbrev Inv-loop : tie.InvT-loop
+Inv-loop table bytes dir cursors₀ text₀ entries₀ rows₀ so-far₀ cursors text entries rows so-far =
+    Reads bytes dir (readsFrom bytes dir (so-far₀ .count - so-far₀ .names + 1) (fresh cursors₀ (keeping so-far₀ text₀ entries₀ rows₀))) cursors (keeping so-far text entries rows)
+    × ((length text ≡ length text₀) × ((length entries ≡ length entries₀) × (length rows ≡ length rows₀)))
+
+abbrev μ-loop : tie.MeasureT-loop
+μ-loop table bytes dir cursors₀ text₀ entries₀ rows₀ so-far₀ cursors text entries rows so-far = so-far .count - so-far .names
+
+loop-holds : tie.Need-loop-holds Inv-loop μ-loop
+loop-holds c = let a = c .before .before .before .before .before .before in (record { opened = a .pre .1 .0; counted = a .pre .1 .1; goes = refl }, (refl, (refl, refl)))
+
+next-requires : tie.Need-next-requires Inv-loop μ-loop
+next-requires c κs = let h = c .before .before .before .before in (h .before .before .before .before .before .before .before .pre .0, (h .loop .inv .0 .opened, h .loop .inv .0 .counted))
+
+keeps-requires : tie.Need-keeps-requires Inv-loop μ-loop
+keeps-requires c κs = search needs
+
+loop-less : tie.Need-loop-less Inv-loop μ-loop
+loop-less c =
+    let h = c .before .before .before .before .before .before .before .before .before .before .before .before .before .before .before .before in
+    reads-less _ _ _ _ _ _ _ _ (h .loop .inv .0) _ (c .before .before .before .before .before .before .before .before .before .before .before .next .ensures) (sym (c .before .before .keeps .ensures) ∙ c .before .if1 .taken)
+
+loop-again : tie.Need-loop-again Inv-loop μ-loop
+loop-again c =
+    let h = c .before .before .before .before .before .before .before .before .before .before .before .before .before .before .before .before in (
+      reads-on _ _ _ _ _ _ _ _ (h .loop .inv .0) _ (c .before .before .before .before .before .before .before .before .before .before .before .next .ensures) (sym (c .before .before .keeps .ensures) ∙ c .before .if1 .taken),
+      (c .before .before .before .before .before .before .before .before .before .before .before .next .kept .1 .1 .1 .1 .0 ∙ h .loop .inv .1 .0, (c .before .before .before .before .before .before .before .before .before .before .before .next .kept .1 .1 .1 .1 .1 .0 ∙ h .loop .inv .1 .1 .0, c .before .before .before .before .before .before .before .before .before .before .before .next .kept .1 .1 .1 .1 .1 .1 .0 ∙ h .loop .inv .1 .1 .1)),
+    )
+
+same-length : tie.Need-same-length Inv-loop μ-loop
+same-length c = let h = c .before .before .before .before .before .before .before .before .before .before .before .before .before .before .before in c .before .before .before .before .before .before .before .before .before .before .next .kept .1 .1 .1 .0 ∙ h .loop .inv .0 .opened .table ∙ sym (h .before .before .before .before .before .before .before .pre .1 .0 .table)
+
+same-length-2 : tie.Need-same-length-2 Inv-loop μ-loop
+same-length-2 c = let h = c .before .before .before .before .before .before .before .before .before .before .before .before .before .before .before in c .before .before .before .before .before .before .before .before .before .before .next .kept .1 .1 .1 .1 .0 ∙ h .loop .inv .1 .0
+
+same-length-3 : tie.Need-same-length-3 Inv-loop μ-loop
+same-length-3 c = let h = c .before .before .before .before .before .before .before .before .before .before .before .before .before .before .before in c .before .before .before .before .before .before .before .before .before .before .next .kept .1 .1 .1 .1 .1 .0 ∙ h .loop .inv .1 .1 .0
+
+same-length-4 : tie.Need-same-length-4 Inv-loop μ-loop
+same-length-4 c = let h = c .before .before .before .before .before .before .before .before .before .before .before .before .before .before .before in c .before .before .before .before .before .before .before .before .before .before .next .kept .1 .1 .1 .1 .1 .1 .0 ∙ h .loop .inv .1 .1 .1
+
+returns : tie.Need-returns Inv-loop μ-loop
+returns c =
+    let h = c .before .before .before .before .before .before .before .before .before .before .before .before .before .before .before in
+    reads-out _ _ _ _ _ _ _ _ (h .loop .inv .0) _ (c .before .before .before .before .before .before .before .before .before .before .next .ensures) (sym (c .before .keeps .ensures) ∙ c .if1 .left)
+
+pub reads-spec : {M : Type 1} → statement M
+reads-spec =
+    tie.close
+    (tie.spec
+    Inv-loop
+    μ-loop
+    loop-holds
+    next-requires
+    keeps-requires
+    loop-less
+    loop-again
+    same-length
+    same-length-2
+    same-length-3
+    same-length-4
+    returns)

@@ -1,0 +1,145 @@
+// The inner read: one name, where the block is known to be open and the counts to be judged.
+ghost use mathlib.Core.Path.{_≡_};
+ghost use mathlib.Core.List.{List};
+ghost use Prim.Native.Nat.{ℕ, _≤_};
+ghost use lib.ListN.{length};
+ghost use Rattle.classes.specs.Classes.{classTable};
+ghost use Rattle.block.specs.Block.{allAtEnd};
+ghost use Rattle.block.specs.Open.{Open};
+ghost use Rattle.kept.specs.Tables.{keeping};
+ghost use Rattle.kept.specs.Inside.{Counted};
+ghost use Rattle.steps.specs.Source.{source};
+ghost use Rattle.reading.specs.Heads.{Headed, Passable};
+ghost use Rattle.reading.specs.Reads.{outcome, finishing, dupJudged, diffJudged, nextOf};
+use crate::Answer;
+use crate::Head;
+use crate::Reading;
+use crate::heading;
+use crate::naming;
+use block::Refusal;
+use block::State;
+use kept::judgement;
+use kept::tables;
+use spans::Distance;
+
+// DUP, with the earlier name judged.
+fn dup(
+    cursors: &mut [u32],
+    text: &mut [u8],
+    entries: &mut [u32],
+    rows: &[u32],
+    state: State,
+    distance: Distance,
+) -> Reading
+    requires { ⌜ Counted (keeping state (now text) (now entries) (now rows)) ⌝ }
+    requires { ⌜ (1 ≤ distance .0) × (distance .0 ≤ state .names) ⌝ }
+    requires { ⌜ (length (now cursors) ≡ 1290) × Passable (now cursors) 5 ⌝ }
+    ensures { λ r. ⌜ ((bytes dir : List ℕ) → outcome (r .answer) (now (cursors .exit)) (keeping (r .state) (now (text .exit)) (now (entries .exit)) (now (rows .entry))) ≡ dupJudged (source bytes dir (now (cursors .entry))) (keeping state (now (text .entry)) (now (entries .entry)) (now (rows .entry))) (distance .0)) ⌝ }
+{
+    let back = state.names - distance.0;
+    if judgement::earlier_fits(state, entries, rows, back) {
+        let e = tables::entry_at(entries, back);
+        naming::copied(cursors, text, entries, rows, state, distance, e)
+    } else {
+        naming::refuse(13, state)
+    }
+}
+
+// DIFF, with the earlier name judged if there is one.
+fn diff(
+    table: &[u8; 256],
+    bytes: &[u8],
+    dir: &[u32],
+    cursors: &mut [u32],
+    text: &mut [u8],
+    entries: &mut [u32],
+    rows: &mut [u32],
+    state: State,
+    distance: Distance,
+) -> Reading
+    requires { ⌜ now table ≡ classTable ⌝ }
+    requires { ⌜ Open (now bytes) (now dir) (now cursors) ⌝ }
+    requires { ⌜ Counted (keeping state (now text) (now entries) (now rows)) ⌝ }
+    requires { ⌜ Headed (source (now bytes) (now dir) (now cursors)) 6 (distance .0) (state .names) ⌝ }
+    ensures { λ r. ⌜ outcome (r .answer) (now (cursors .exit)) (keeping (r .state) (now (text .exit)) (now (entries .exit)) (now (rows .exit))) ≡ diffJudged (source (now (bytes .entry)) (now (dir .entry)) (now (cursors .entry))) (keeping state (now (text .entry)) (now (entries .entry)) (now (rows .entry))) (distance .0) ⌝ }
+{
+    let d = distance.0;
+    if d == 0 {
+        return naming::named(
+            table,
+            bytes,
+            dir,
+            cursors,
+            text,
+            entries,
+            rows,
+            state,
+            distance,
+            0,
+            0,
+        );
+    }
+    let back = state.names - d;
+    if judgement::earlier_fits(state, entries, rows, back) {
+        let e = tables::entry_at(entries, back);
+        naming::named(
+            table,
+            bytes,
+            dir,
+            cursors,
+            text,
+            entries,
+            rows,
+            state,
+            distance,
+            e.first,
+            e.rows,
+        )
+    } else {
+        naming::refuse(13, state)
+    }
+}
+
+// With all names read.
+fn finish(dir: &[u32], cursors: &[u32], state: State) -> Reading
+    requires { ⌜ (length (now dir) ≡ 2580) × (length (now cursors) ≡ 1290) ⌝ }
+    ensures { λ r. ⌜ r ≡ finishing state (allAtEnd (now (dir .entry)) (now (cursors .entry))) ⌝ }
+{
+    if block::at_end(dir, cursors) {
+        Reading {
+            answer: Answer::Done,
+            state: state,
+        }
+    } else {
+        Reading {
+            answer: Answer::Refused(Refusal::Plain(10)),
+            state: state,
+        }
+    }
+}
+
+pub fn next(
+    table: &[u8; 256],
+    bytes: &[u8],
+    dir: &[u32],
+    cursors: &mut [u32],
+    text: &mut [u8],
+    entries: &mut [u32],
+    rows: &mut [u32],
+    state: State,
+) -> Reading
+    requires { ⌜ now table ≡ classTable ⌝ }
+    requires { ⌜ Open (now bytes) (now dir) (now cursors) ⌝ }
+    requires { ⌜ Counted (keeping state (now text) (now entries) (now rows)) ⌝ }
+    ensures { λ r. ⌜ outcome (r .answer) (now (cursors .exit)) (keeping (r .state) (now (text .exit)) (now (entries .exit)) (now (rows .exit))) ≡ nextOf (source (now (bytes .entry)) (now (dir .entry)) (now (cursors .entry))) (keeping state (now (text .entry)) (now (entries .entry)) (now (rows .entry))) ⌝ }
+{
+    let k = state.names;
+    if k == state.count {
+        return finish(dir, cursors, state);
+    }
+    match heading::head(bytes, dir, cursors, k) {
+        Head::Dup(d) => dup(cursors, text, entries, rows, state, d),
+        Head::Diff(d) => diff(table, bytes, dir, cursors, text, entries, rows, state, d),
+        Head::Refused(r) => naming::refuse(r, state),
+    }
+}

@@ -1,0 +1,73 @@
+-- Position 0 read back: DUP or DIFF and its distance.
+use Prim.Native.Nat.{ℕ, _+_, _*_, _^_, _≤_, _<_}
+use mathlib.Core.Path.{_≡_, refl, ap, _∙_}
+use mathlib.Core.Bool.{true}
+use mathlib.Core.List.{List, [], _∷_}
+use native.Mathlib.Omega.{arith}
+use borrow.Author.Tests.{le-leb, eq-eqb, ne-eqb}
+use lib.Dec.{leb, eqb}
+use Rattle.base.specs.Choice.{pick, both}
+use Rattle.base.proofs.Choice.{pick-true, pick-false, both-of}
+use Rattle.spans.specs.declared.NextByte.the-variants as byte
+use Rattle.spans.specs.declared.NextFour.the-variants as four
+use Rattle.spans.specs.Spans.{cursor, fourBytes}
+use Rattle.block.specs.Block.{spanOf, cursorOf}
+use Rattle.block.proofs.Laws.{span-below, span-stream}
+use Rattle.steps.specs.Source.{source, byteIn, fourIn}
+use Rattle.names.specs.Names.{past}
+use Rattle.reading.specs.declared.Head.the-variants as head
+use Rattle.reading.specs.Reads.{dupHead, diffHead, typedHead, headOf, headPast}
+use Rattle.laying.specs.Puts.{Put, put}
+use Rattle.roundtrip.proofs.Eating.{Left, first, eat, first-other, past-other}
+use Rattle.roundtrip.proofs.Fronts.{byte-first, four-first}
+
+module _ (bytes dir cur : List ℕ) (t i d : ℕ) (low : 1 ≤ i) (high : i ≤ 9) (small : d < 2 ^ 32) (rest : List Put)
+    (l : Left bytes dir cur (put (spanOf 0 0) (t ∷ []) ∷ put (spanOf 0 i) (fourBytes d) ∷ rest)) where
+  type-there : byteIn (source bytes dir cur) 0 0 ≡ byte.Value t (cursor (cursorOf cur (spanOf 0 0) + 1))
+  type-there = byte-first bytes dir cur 0 0 t (first bytes dir cur (spanOf 0 0) (t ∷ []) (put (spanOf 0 i) (fourBytes d) ∷ rest) (span-below 0 0 (omega arith) (omega arith)) l)
+
+  typed : Left bytes dir (past cur (spanOf 0 0) 1) (put (spanOf 0 i) (fourBytes d) ∷ rest)
+  typed = eat bytes dir cur (spanOf 0 0) (t ∷ []) (put (spanOf 0 i) (fourBytes d) ∷ rest) (span-below 0 0 (omega arith) (omega arith)) l
+
+  distance-there : fourIn (source bytes dir cur) 0 i ≡ four.Value d (cursor (cursorOf cur (spanOf 0 i) + 4))
+  distance-there =
+      four-first bytes dir cur 0 i d small
+      (first-other bytes dir cur (spanOf 0 0) 1 (spanOf 0 i) (fourBytes d) (λ q. let z : i ≡ 0 = span-stream 0 i 0 0 high (omega arith) q in omega arith)
+      (first bytes dir (past cur (spanOf 0 0) 1) (spanOf 0 i) (fourBytes d) rest (span-below 0 i (omega arith) high) typed))
+
+  pub head-past : Left bytes dir (headPast cur i) rest
+  unfolding headPast fourBytes
+  head-past = eat bytes dir (past cur (spanOf 0 0) 1) (spanOf 0 i) (fourBytes d) rest (span-below 0 i (omega arith) high) typed
+
+pub head-later : (cur : List ℕ) (i : ℕ) → i ≤ 9 → (j : ℕ) → 10 ≤ j → cursorOf (headPast cur i) j ≡ cursorOf cur j
+unfolding headPast spanOf
+head-later cur i h j l =
+    past-other (past cur (10 * 0 + 0) 1) (10 * 0 + i) 4 j (λ q. omega arith) ∙ past-other cur (10 * 0 + 0) 1 j (λ q. omega arith)
+
+module _ (bytes dir cur : List ℕ) (n d : ℕ) (small : d < 2 ^ 32) (rest : List Put) where
+  pub dup-head : 1 ≤ d → d ≤ n → Left bytes dir cur (put (spanOf 0 0) (5 ∷ []) ∷ put (spanOf 0 5) (fourBytes d) ∷ rest)
+      → headOf (source bytes dir cur) n ≡ head.Dup (record { 0 = d })
+  unfolding headOf typedHead dupHead
+  dup-head h k l =
+      ap (typedHead (source bytes dir cur) n) (type-there bytes dir cur 5 5 d (omega arith) (omega arith) small rest l)
+      ∙ pick-true _ _ (eq-eqb 5 5 refl)
+      ∙ ap (dupHead n) (distance-there bytes dir cur 5 5 d (omega arith) (omega arith) small rest l)
+      ∙ pick-true _ _ (both-of (le-leb _ _ h) (le-leb _ _ k))
+
+  diff-head : pick (eqb n 0) (eqb d 0) (both (leb 1 d) (leb d n)) ≡ true → Left bytes dir cur (put (spanOf 0 0) (6 ∷ []) ∷ put (spanOf 0 6) (fourBytes d) ∷ rest)
+      → headOf (source bytes dir cur) n ≡ head.Diff (record { 0 = d })
+  unfolding headOf typedHead diffHead
+  diff-head t l =
+      ap (typedHead (source bytes dir cur) n) (type-there bytes dir cur 6 6 d (omega arith) (omega arith) small rest l)
+      ∙ pick-false _ _ (ne-eqb 6 5 (λ (q : 6 ≡ 5). omega arith))
+      ∙ pick-true _ _ (eq-eqb 6 6 refl)
+      ∙ ap (diffHead n) (distance-there bytes dir cur 6 6 d (omega arith) (omega arith) small rest l)
+      ∙ pick-true _ _ t
+
+  pub first-head : n ≡ 0 → d ≡ 0 → Left bytes dir cur (put (spanOf 0 0) (6 ∷ []) ∷ put (spanOf 0 6) (fourBytes d) ∷ rest)
+      → headOf (source bytes dir cur) n ≡ head.Diff (record { 0 = d })
+  first-head a b l = diff-head (pick-true _ _ (eq-eqb n 0 a) ∙ eq-eqb d 0 b) l
+
+  pub later-head : 1 ≤ d → d ≤ n → Left bytes dir cur (put (spanOf 0 0) (6 ∷ []) ∷ put (spanOf 0 6) (fourBytes d) ∷ rest)
+      → headOf (source bytes dir cur) n ≡ head.Diff (record { 0 = d })
+  later-head h k l = diff-head (pick-false _ _ (ne-eqb n 0 (λ q. omega arith)) ∙ both-of (le-leb _ _ h) (le-leb _ _ k)) l

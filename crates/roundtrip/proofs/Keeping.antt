@@ -1,0 +1,228 @@
+-- A name that was read is kept: its entry says where it stands, its rows are those of its split, and what was kept before stays.
+use Prim.Native.Nat.{ℕ, _+_, _*_, _≤_, _<_}
+use mathlib.Core.Path.{_≡_, refl, sym, ap, _∙_, subst}
+use mathlib.Core.Bool.{true}
+use mathlib.Core.List.{List, [], _∷_, _++_}
+use native.Mathlib.Omega.{arith}
+use borrow.Author.Tests.{le-leb}
+use lib.ListN.{length, take, length-append}
+use Rattle.base.specs.Memory.{part, written}
+use Rattle.base.proofs.Choice.{pick-true, both-of}
+use Rattle.base.proofs.Memory.{length-written}
+use Rattle.block.specs.Block.{state}
+use Rattle.tokens.proofs.Texts.{take-written, same-below}
+use Rattle.kept.specs.declared.Entry.{Entry}
+use Rattle.kept.specs.Tables.{Kept, keeping, entryAt}
+use Rattle.kept.specs.Judgement.{earlierFits}
+use Rattle.kept.specs.Inside.{Counted, TextInside, RowsInside}
+use Rattle.kept.proofs.Laws.{room-of, entry-text-of, entry-rows-of}
+use Rattle.kept.proofs.Frame.{Alike, entry-alike, alike-written}
+use Rattle.steps.specs.Source.{Source, earlier}
+use Rattle.names.specs.Names.{Draft}
+use Rattle.reading.specs.declared.Answer.the-variants as answer
+use Rattle.reading.specs.Reads.{outcome, roomFor, kept, keepOf}
+use Rattle.roundtrip.specs.Rows.{splitRows, tokensIn}
+use Rattle.roundtrip.specs.Back.{NameIs, RowsAre}
+use Rattle.roundtrip.proofs.Holding.{Holds, holds-written, holds-left, holds-at, holds-first, holds-part, holds-same, holds-stays}
+use Rattle.roundtrip.proofs.Spelling.{Good, RowsOf, rows-of-fit, tokens-some, tokens-most, length-split}
+
+-- entry i says that name i is s; all that it points to is kept
+pub record EntryIs (m : Kept) (i : ℕ) (s : List ℕ) : Type 0 where
+  pub size : entryAt (m .names) i .length ≡ length s
+  pub text : Holds (m .text) (entryAt (m .names) i .start) s
+  pub below : entryAt (m .names) i .start + length s ≤ m .state .text
+  pub rows : RowsOf (earlier (m .text) (m .rows) (entryAt (m .names) i .first) (entryAt (m .names) i .rows)) (m .state .text) s
+  pub inside : entryAt (m .names) i .first + entryAt (m .names) i .rows ≤ m .state .rows
+
+-- so it passes the judgement of an earlier name
+pub entry-fits : (m : Kept) (i : ℕ) (s : List ℕ) → Good s → EntryIs m i s → earlierFits m i ≡ true
+unfolding earlierFits
+entry-fits m i s good is =
+    let e : Entry = entryAt (m .names) i in
+    let n : e .length ≡ length s = is .size in
+    let c : e .rows ≡ tokensIn s = is .rows .many in
+    let t : TextInside (m .state) e = record { some = omega (arith, good .some); most = omega (arith, good .short); ends = omega (arith, is .below) } in
+    let r : RowsInside (m .state) e = record { some = omega (arith, tokens-some s (good .some)); most = omega (arith, tokens-most s); ends = is .inside } in
+    both-of (entry-text-of (m .state) e t)
+    (both-of (entry-rows-of (m .state) e r)
+    (rows-of-fit (earlier (m .text) (m .rows) (e .first) (e .rows)) (m .state .text) s (good .allowed) (is .rows)))
+
+-- and its text is the name
+pub entry-text : (m : Kept) (i : ℕ) (s : List ℕ) → EntryIs m i s
+    → part (m .text) (entryAt (m .names) i .start) (entryAt (m .names) i .start + entryAt (m .names) i .length) ≡ s
+entry-text m i s is =
+    let a : ℕ = entryAt (m .names) i .start in
+    ap (λ (n : ℕ). part (m .text) a (a + n)) (is .size) ∙ holds-part (m .text) a s (is .text)
+
+-- what was kept stays
+pub record Stays (m n : Kept) : Type 0 where
+  pub texts : m .state .text ≤ n .state .text
+  pub entries : m .state .names ≤ n .state .names
+  pub text : take (m .state .text) (m .text) ≡ take (m .state .text) (n .text)
+  pub names : Alike (m .names) (n .names) (m .state .names)
+  pub used : m .state .rows ≤ n .state .rows
+  pub rows : take (5 * m .state .rows) (m .rows) ≡ take (5 * m .state .rows) (n .rows)
+
+pub stays-then : (a b c : Kept) → Stays a b → Stays b c → Stays a c
+stays-then a b c p q =
+    record {
+      texts = omega (arith, p .texts, q .texts);
+      entries = omega (arith, p .entries, q .entries);
+      text = p .text ∙ same-below (b .text) (c .text) (b .state .text) (q .text) (a .state .text) (p .texts);
+      names = λ j h. p .names j h ∙ q .names j (omega (arith, p .entries));
+      used = omega (arith, p .used, q .used);
+      rows = p .rows ∙ same-below (b .rows) (c .rows) (5 * b .state .rows) (q .rows) (5 * a .state .rows) (omega (arith, p .used));
+    }
+
+pub stays-none : (m : Kept) → Stays m m
+stays-none m = record { texts = omega arith; entries = omega arith; text = refl; names = λ j h. refl; used = omega arith; rows = refl }
+
+-- a name whose entry is kept is still that name
+pub stays-name : (m n : Kept) (i : ℕ) (s : List ℕ) → Stays m n → i < m .state .names → EntryIs m i s → NameIs n i s
+stays-name m n i s p h is =
+    let q : entryAt (m .names) i ≡ entryAt (n .names) i = entry-alike (m .names) (n .names) (m .state .names) (p .names) i h in
+    let a : ℕ = entryAt (m .names) i .start in
+    let t : part (n .text) a (a + entryAt (m .names) i .length) ≡ s =
+    ap (λ (k : ℕ). part (n .text) a (a + k)) (is .size) ∙ holds-part (n .text) a s (holds-same (m .text) (n .text) a s (m .state .text) (p .text) (is .below) (is .text)) in
+    record {
+      size = sym (ap (λ (e : Entry). e .length) q) ∙ is .size;
+      text = subst (λ (e : Entry). part (n .text) (e .start) (e .start + e .length) ≡ s) q t;
+    }
+
+-- and its rows are those of its split
+pub stays-rows : (m n : Kept) (i : ℕ) (s : List ℕ) → Stays m n → i < m .state .names → EntryIs m i s → RowsAre n i s
+stays-rows m n i s p h is =
+    let q : entryAt (m .names) i ≡ entryAt (n .names) i = entry-alike (m .names) (n .names) (m .state .names) (p .names) i h in
+    let f : ℕ = entryAt (m .names) i .first in
+    let c : ℕ = entryAt (m .names) i .rows in
+    let many : c ≡ tokensIn s = is .rows .many in
+    let o : ℕ = is .rows .origin in
+    let l : length (splitRows s o) ≡ 5 * tokensIn s = length-split s o in
+    let e : 5 * (f + c) ≡ 5 * f + length (splitRows s o) = omega arith in
+    let r : part (n .rows) (5 * f) (5 * (f + c)) ≡ splitRows s o =
+    ap (part (n .rows) (5 * f)) e
+    ∙ holds-part (n .rows) (5 * f) (splitRows s o) (holds-same (m .rows) (n .rows) (5 * f) (splitRows s o) (5 * m .state .rows) (p .rows) (omega (arith, is .inside)) (is .rows .rows)) in
+    record {
+      many = sym (ap (λ (x : Entry). x .rows) q) ∙ many;
+      origin = o;
+      text = holds-part (n .text) o s (holds-same (m .text) (n .text) o s (m .state .text) (p .text) (is .rows .below) (is .rows .text));
+      rows = subst (λ (x : Entry). part (n .rows) (5 * x .first) (5 * (x .first + x .rows)) ≡ splitRows s o) q r;
+    }
+
+-- one name kept: d is what was read, and its rows, added now or kept before, are `many` rows from `first` on
+module _ (m : Kept) (counted : Counted m) (s : List ℕ) (good : Good s) (d : Draft) (text : d .text ≡ s) (fives : length (d .rows) ≡ 5 * d .count)
+    (roomy : m .state .text + length s + 1 ≤ length (m .text)) (fits : 5 * (m .state .names + 1) ≤ length (m .names)) (enough : 5 * (m .state .rows + d .count) ≤ length (m .rows))
+    (first many distance : ℕ) where
+  abbrev pub after : Kept
+  after =
+      keeping
+      (state (m .state .count) (m .state .names + 1) (m .state .text + length (d .text) + 1) (m .state .rows + d .count))
+      (written (m .text) (m .state .text) (d .text ++ (10 ∷ [])))
+      (written (m .names) (5 * m .state .names) (m .state .text ∷ length (d .text) ∷ first ∷ many ∷ distance ∷ []))
+      (written (m .rows) (5 * m .state .rows) (d .rows))
+
+  text-length : length (d .text) ≡ length s
+  text-length = ap length text
+
+  pub kept-back : (src : Source) → keepOf src m d first many distance ≡ outcome (answer.Kept (m .state .names)) (d .cur) after
+  unfolding keepOf kept roomFor
+  kept-back src =
+      pick-true _ _
+      (both-of (le-leb (m .state .text + length (d .text) + 1) (length (m .text)) (omega (arith, text-length)))
+      (both-of (le-leb _ _ (room-of (m .names) (m .state .names + 1) fits))
+      (le-leb _ _ (room-of (m .rows) (m .state .rows + d .count) enough))))
+
+  -- the new name and its byte 10
+  pub after-text : Holds (after .text) (m .state .text) (s ++ 10 ∷ [])
+  after-text = subst (λ (l : List ℕ). Holds (after .text) (m .state .text) (l ++ 10 ∷ [])) text (holds-written (m .text) (m .state .text) (d .text ++ 10 ∷ []) (omega arith))
+
+  abbrev five : List ℕ
+  five = m .state .text ∷ length (d .text) ∷ first ∷ many ∷ distance ∷ []
+
+  after-entry : Holds (after .names) (5 * m .state .names) five
+  after-entry = holds-written (m .names) (5 * m .state .names) five (omega arith)
+
+  entry-start : entryAt (after .names) (m .state .names) .start ≡ m .state .text
+  unfolding entryAt
+  entry-start = holds-first (after .names) (5 * m .state .names) (m .state .text) (length (d .text) ∷ first ∷ many ∷ distance ∷ []) after-entry
+
+  entry-length : entryAt (after .names) (m .state .names) .length ≡ length (d .text)
+  unfolding entryAt
+  entry-length = holds-at (after .names) (5 * m .state .names) five after-entry 1 (omega arith)
+
+  entry-first : entryAt (after .names) (m .state .names) .first ≡ first
+  unfolding entryAt
+  entry-first = holds-at (after .names) (5 * m .state .names) five after-entry 2 (omega arith)
+
+  entry-rows : entryAt (after .names) (m .state .names) .rows ≡ many
+  unfolding entryAt
+  entry-rows = holds-at (after .names) (5 * m .state .names) five after-entry 3 (omega arith)
+
+  pub after-is : RowsOf (earlier (after .text) (after .rows) first many) (after .state .text) s → first + many ≤ after .state .rows → EntryIs after (m .state .names) s
+  after-is rows inside =
+      record {
+        size = entry-length ∙ text-length;
+        text = rw entry-start (holds-left (after .text) (m .state .text) s (10 ∷ []) after-text);
+        below = omega (arith, entry-start, text-length);
+        rows = rw (entry-first, entry-rows) rows;
+        inside = omega (arith, entry-first, entry-rows);
+      }
+
+  pub after-stays : Stays m after
+  after-stays =
+      record {
+        texts = omega arith;
+        entries = omega arith;
+        text = sym (take-written (m .text) (m .state .text) (d .text ++ (10 ∷ [])) (m .state .text) (omega arith) (omega arith));
+        names = λ j h. sym (alike-written (m .names) (5 * m .state .names) five (m .state .names) (omega arith) (omega arith) j h);
+        used = omega arith;
+        rows = sym (take-written (m .rows) (5 * m .state .rows) (d .rows) (5 * m .state .rows) (omega arith) (omega arith));
+      }
+
+  ten : length (d .text ++ (10 ∷ [])) ≡ length s + 1
+  ten = length-append (d .text) (10 ∷ []) ∙ ap (λ (n : ℕ). n + 1) text-length
+
+  pub after-texts : length (after .text) ≡ length (m .text)
+  after-texts = length-written (m .text) (m .state .text) (d .text ++ (10 ∷ [])) (omega (arith, ten))
+
+  pub after-names : length (after .names) ≡ length (m .names)
+  after-names = length-written (m .names) (5 * m .state .names) five (omega arith)
+
+  pub after-rows : length (after .rows) ≡ length (m .rows)
+  after-rows = length-written (m .rows) (5 * m .state .rows) (d .rows) (omega arith)
+
+  pub after-counted : m .state .names < m .state .count → d .count ≤ 127 → Counted after
+  after-counted h k =
+      record {
+        kept = omega arith;
+        limit = counted .limit;
+        entries = omega (arith, after-names);
+        used = omega (arith, after-texts, text-length);
+        most = omega (arith, counted .most, text-length, good .short);
+        rowsUsed = omega (arith, after-rows);
+        rowsMost = omega (arith, counted .rowsMost);
+      }
+
+  -- rows added now
+  pub rows-new : d .rows ≡ splitRows s (m .state .text) → d .count ≡ tokensIn s → RowsOf (earlier (after .text) (after .rows) (m .state .rows) (d .count)) (after .state .text) s
+  rows-new r c =
+      record {
+        origin = m .state .text;
+        text = holds-left (after .text) (m .state .text) s (10 ∷ []) after-text;
+        below = omega (arith, text-length);
+        rows = subst (λ (l : List ℕ). Holds (after .rows) (5 * m .state .rows) l) r (holds-written (m .rows) (5 * m .state .rows) (d .rows) (omega arith));
+        many = c;
+      }
+
+  -- rows kept before
+  pub rows-old : (f n : ℕ) → RowsOf (earlier (m .text) (m .rows) f n) (m .state .text) s → f + n ≤ m .state .rows → RowsOf (earlier (after .text) (after .rows) f n) (after .state .text) s
+  rows-old f n o h =
+      record {
+        origin = o .origin;
+        text = holds-stays (m .text) (o .origin) s (m .state .text) (d .text ++ (10 ∷ [])) (o .below) (omega arith) (o .text);
+        below = omega (arith, o .below);
+        rows =
+            holds-stays (m .rows) (5 * f) (splitRows s (o .origin)) (5 * m .state .rows) (d .rows)
+            (omega (arith, length-split s (o .origin), o .many)) (omega arith) (o .rows);
+        many = o .many;
+      }

@@ -1,0 +1,15 @@
+pub mod Holding
+pub mod Eating
+pub mod Fronts
+pub mod Pieces
+pub mod Leaning
+pub mod Resolving
+pub mod Stepping
+pub mod Spelling
+pub mod Heading
+pub mod Keeping
+pub mod Reading
+pub mod Blocks
+pub mod Spans
+pub mod Inputs
+pub mod RoundTrip

@@ -1,0 +1,286 @@
+-- One read of written streams: it keeps the next name, and the streams are left as the names after it put them.
+use Prim.Native.Nat.{ℕ, suc, _+_, _-_, _*_, _≤_, _<_}
+use mathlib.Core.Path.{_≡_, refl, sym, ap, _∙_, subst}
+use mathlib.Core.Bool.{true, false}
+use mathlib.Core.List.{List, [], _∷_, _++_}
+use native.Mathlib.Omega.{arith}
+use borrow.Author.Tests.{eqb-true, eqb-false, eq-eqb, ne-eqb}
+use lib.ListN.{length}
+use Rattle.base.specs.Choice.{pick}
+use Rattle.base.specs.Memory.{part}
+use Rattle.base.proofs.Choice.{pick-true, pick-false, by-test}
+use Rattle.base.proofs.Every.{every-none}
+use Rattle.classes.specs.Classes.{isAllowed, allAllowed}
+use Rattle.spans.specs.Spans.{fourBytes}
+use Rattle.block.specs.Block.{state, spanOf, endOf}
+use Rattle.block.specs.Open.{Open}
+use Rattle.block.proofs.Laws.{open-sound, open-inside, each-at-end}
+use Rattle.kept.specs.declared.Entry.{Entry}
+use Rattle.kept.specs.Tables.{Kept, entryAt}
+use Rattle.kept.specs.Judgement.{counts}
+use Rattle.kept.specs.Inside.{Counted}
+use Rattle.kept.proofs.Laws.{counts-of}
+use Rattle.steps.specs.Source.{Source, source, Earlier, earlier}
+use Rattle.names.specs.Names.{Draft, draft, nameOf}
+use Rattle.reading.specs.declared.Head.{Head}
+use Rattle.reading.specs.declared.Head.the-variants as head
+use Rattle.reading.specs.declared.Answer.the-variants as answer
+use Rattle.reading.specs.Reads.{outcome, headOf, keepOf, headPast, dupOf, namedOf, diffOf, rowsOf, none, entryBack, headedOf, nextOf, readOf}
+use Rattle.splitting.specs.declared.Reference.the-variants.{Dup, Diff}
+use Rattle.splitting.specs.Choices.{equal, anew, referenceOf, leansOn, choicesOf}
+use Rattle.splitting.proofs.Equal.{equal-eq}
+use Rattle.laying.specs.Puts.{Put, put}
+use Rattle.writing.specs.NamePuts.{tokenPuts, headPuts, referencePuts, namePuts, putsFrom}
+use Rattle.roundtrip.specs.Rows.{splitRows, tokensIn}
+use Rattle.roundtrip.specs.Room.{textWanted, rowsAdded, rowsFor}
+use Rattle.roundtrip.proofs.Holding.{Holds, holds-none}
+use Rattle.roundtrip.proofs.Eating.{Left, left-open, left-none}
+use Rattle.roundtrip.proofs.Pieces.{rows-out, count-out}
+use Rattle.roundtrip.proofs.Heading.{head-past, head-later, dup-head, first-head, later-head}
+use Rattle.roundtrip.proofs.Spelling.{Good, RowsOf, Spelt, name-back, tokens-most, length-split}
+use Rattle.roundtrip.proofs.Keeping.{EntryIs, entry-fits, entry-text, Stays, after, kept-back, after-text, after-is, after-stays, after-texts, after-names, after-rows, after-counted, rows-new, rows-old}
+
+-- each of the names is one that SAM allows
+unfoldable pub AllGood : List (List ℕ) → Type 0
+AllGood [] = Unit
+AllGood (s ∷ ss) = Good s × AllGood ss
+
+-- so far read: the last name kept is `before`, the streams hold what the names `todo` put, and there is room for them
+pub record Reached (bytes dir cur : List ℕ) (m : Kept) (before : List ℕ) (todo : List (List ℕ)) : Type 0 where
+  pub left : Left bytes dir cur (putsFrom (m .state .names) before todo)
+  pub counted : Counted m
+  pub all : m .state .count ≡ m .state .names + length todo
+  pub last : 1 ≤ m .state .names → Good before × EntryIs m (m .state .names - 1) before
+  pub good : AllGood todo
+  pub texts : m .state .text + textWanted todo ≤ length (m .text)
+  pub entries : 5 * (m .state .names + length todo) ≤ length (m .names)
+  pub rows : 5 * (m .state .rows + rowsFor (m .state .names) before todo) ≤ length (m .rows)
+
+-- a read that kept the name s
+pub record ReadBack (bytes dir cur : List ℕ) (m : Kept) (before s : List ℕ) (ss : List (List ℕ)) : Type 0 where
+  pub now : List ℕ
+  pub next : Kept
+  pub is : readOf (source bytes dir cur) m ≡ outcome (answer.Kept (m .state .names)) now next
+  pub reached : Reached bytes dir now next s ss
+  pub stays : Stays m next
+  pub entry : EntryIs next (m .state .names) s
+  pub text : Holds (next .text) (m .state .text) (s ++ 10 ∷ [])
+  pub counts : next .state ≡ state (m .state .count) (m .state .names + 1) (m .state .text + (length s + 1)) (m .state .rows + rowsAdded (m .state .names) before s)
+
+-- The reference of a name, case by case
+
+module _ (n : ℕ) (before s : List ℕ) where
+  puts-first : anew n ≡ true → namePuts n before s ≡ referencePuts [] s (Diff (record { 0 = 0 }))
+  unfolding namePuts referenceOf leansOn pick
+  puts-first a = rw a
+
+  puts-dup : anew n ≡ false → equal before s ≡ true → namePuts n before s ≡ referencePuts before s (Dup (record { 0 = 1 }))
+  unfolding namePuts referenceOf leansOn pick
+  puts-dup a e = rw (a, e)
+
+  puts-diff : anew n ≡ false → equal before s ≡ false → namePuts n before s ≡ referencePuts before s (Diff (record { 0 = 1 }))
+  unfolding namePuts referenceOf leansOn pick
+  puts-diff a e = rw (a, e)
+
+  added-first : anew n ≡ true → rowsAdded n before s ≡ tokensIn s
+  unfolding rowsAdded
+  added-first a = pick-true _ _ a
+
+  added-dup : anew n ≡ false → equal before s ≡ true → rowsAdded n before s ≡ 0
+  unfolding rowsAdded
+  added-dup a e = pick-false _ _ a ∙ pick-true _ _ e
+
+  added-diff : anew n ≡ false → equal before s ≡ false → rowsAdded n before s ≡ tokensIn s
+  unfolding rowsAdded
+  added-diff a e = pick-false _ _ a ∙ pick-false _ _ e
+
+-- no earlier name: no rows, those of the empty split
+rows-nothing : (text rows : List ℕ) (used : ℕ) → RowsOf (earlier text rows 0 0) used []
+unfolding splitRows tokensIn
+rows-nothing text rows used =
+    record {
+      origin = 0;
+      text = holds-none text 0;
+      below = omega arith;
+      rows = rw (rows-out [] 127 1 0 0 (omega arith)) (holds-none rows (5 * 0));
+      many = sym (count-out [] 127 1 0 (omega arith));
+    }
+
+module _ (bytes dir cur : List ℕ) (m : Kept) (before : List ℕ) (directory : length dir ≡ 2580) (within : (i : ℕ) → i < 1290 → endOf dir i ≤ length bytes) where
+  abbrev src : Source
+  src = source bytes dir cur
+
+  opened : (todo : List (List ℕ)) → Reached bytes dir cur m before todo → Open bytes dir cur
+  opened todo r = left-open bytes dir cur (putsFrom (m .state .names) before todo) directory within (r .left)
+
+  judged : (todo : List (List ℕ)) → Reached bytes dir cur m before todo → readOf src m ≡ nextOf src m
+  unfolding readOf
+  judged todo r =
+      pick-true _ _ (open-sound bytes dir cur (opened todo r))
+      ∙ pick-true _ _ (counts-of m (r .counted))
+      ∙ pick-true _ _ (open-inside bytes dir cur (opened todo r))
+
+  -- with all names read, "done"
+  pub done-back : Reached bytes dir cur m before [] → readOf src m ≡ outcome answer.Done cur m
+  unfolding nextOf putsFrom
+  done-back r =
+      let all : m .state .count ≡ m .state .names + 0 = r .all in
+      judged [] r ∙ pick-true _ _ (eq-eqb (m .state .names) (m .state .count) (omega arith))
+      ∙ pick-true _ _ (each-at-end dir cur (left-none bytes dir cur (r .left)))
+
+  module _ (s : List ℕ) (ss : List (List ℕ)) (r : Reached bytes dir cur m before (s ∷ ss)) where
+    abbrev k : ℕ
+    k = m .state .names
+
+    good : Good s
+    unfolding AllGood
+    good = r .good .0
+
+    goods : AllGood ss
+    unfolding AllGood
+    goods = r .good .1
+
+    headed : (h : Head) → headOf src k ≡ h → readOf src m ≡ headedOf src m h
+    unfolding nextOf
+    headed h q =
+        let all : m .state .count ≡ k + suc (length ss) = r .all in
+        judged (s ∷ ss) r ∙ pick-false _ _ (ne-eqb k (m .state .count) (λ w. omega arith)) ∙ ap (headedOf src m) q
+
+    text-room : m .state .text + (length s + 1 + textWanted ss) ≤ length (m .text)
+    unfolding textWanted
+    text-room = omega (arith, r .texts)
+
+    row-room : 5 * (m .state .rows + (rowsAdded k before s + rowsFor (k + 1) s ss)) ≤ length (m .rows)
+    unfolding rowsFor
+    row-room = r .rows
+
+    puts : (ps : List Put) → namePuts k before s ≡ ps → Left bytes dir cur (ps ++ putsFrom (k + 1) s ss)
+    unfolding putsFrom
+    puts ps q = subst (λ (x : List Put). Left bytes dir cur (x ++ putsFrom (k + 1) s ss)) q (r .left)
+
+    -- what was read is kept
+    module _ (d : Draft) (text : d .text ≡ s) (fives : length (d .rows) ≡ 5 * d .count) (count : d .count ≡ rowsAdded k before s) (few : d .count ≤ 127) (first many distance : ℕ) where
+      roomy : m .state .text + length s + 1 ≤ length (m .text)
+      roomy = omega (arith, text-room)
+
+      fits : 5 * (k + 1) ≤ length (m .names)
+      fits = let all : 5 * (k + suc (length ss)) ≤ length (m .names) = r .entries in omega arith
+
+      enough : 5 * (m .state .rows + d .count) ≤ length (m .rows)
+      enough = omega (arith, row-room, count)
+
+      abbrev then : Kept
+      then = after m (r .counted) s good d text fives roomy fits enough first many distance
+
+      kept-read : readOf src m ≡ keepOf src m d first many distance → Left bytes dir (d .cur) (putsFrom (k + 1) s ss)
+          → RowsOf (earlier (then .text) (then .rows) first many) (then .state .text) s → first + many ≤ then .state .rows
+          → ReadBack bytes dir cur m before s ss
+      kept-read q l rows inside =
+          let all : m .state .count ≡ k + suc (length ss) = r .all in
+          let table : 5 * (k + suc (length ss)) ≤ length (m .names) = r .entries in
+          let n : length (d .text) ≡ length s = ap length text in
+          let is : EntryIs then k s = after-is m (r .counted) s good d text fives roomy fits enough first many distance rows inside in
+          let t : m .state .text + length (d .text) + 1 ≡ m .state .text + (length s + 1) = omega arith in
+          let w : m .state .rows + d .count ≡ m .state .rows + rowsAdded k before s = ap (λ (x : ℕ). m .state .rows + x) count in
+          let e : k + 1 - 1 ≡ k = omega arith in
+          record {
+            now = d .cur;
+            next = then;
+            is = q ∙ kept-back m (r .counted) s good d text fives roomy fits enough first many distance src;
+            reached =
+                record {
+                  left = l;
+                  counted = after-counted m (r .counted) s good d text fives roomy fits enough first many distance (omega arith) few;
+                  all = omega arith;
+                  last = λ h. (good, subst (λ (i : ℕ). EntryIs then i s) (sym e) is);
+                  good = goods;
+                  texts = omega (arith, text-room, after-texts m (r .counted) s good d text fives roomy fits enough first many distance);
+                  entries = omega (arith, after-names m (r .counted) s good d text fives roomy fits enough first many distance);
+                  rows = omega (arith, row-room, count, after-rows m (r .counted) s good d text fives roomy fits enough first many distance);
+                };
+            stays = after-stays m (r .counted) s good d text fives roomy fits enough first many distance;
+            entry = is;
+            text = after-text m (r .counted) s good d text fives roomy fits enough first many distance;
+            counts = rw (t, w) refl;
+          }
+
+    -- DUP
+    dup-back : 1 ≤ k → anew k ≡ false → equal before s ≡ true → ReadBack bytes dir cur m before s ss
+    unfolding referencePuts headPuts headedOf dupOf entryBack
+    dup-back h a q =
+        let l : Left bytes dir cur (put (spanOf 0 0) (5 ∷ []) ∷ put (spanOf 0 5) (fourBytes 1) ∷ putsFrom (k + 1) s ss) = puts _ (puts-dup k before s a q) in
+        let same : before ≡ s = equal-eq before s q in
+        let was = r .last h in
+        let entry : Entry = entryAt (m .names) (k - 1) in
+        let d : Draft = draft (part (m .text) (entry .start) (entry .start + entry .length)) [] 0 (headPast cur 5) in
+        let text : d .text ≡ s = entry-text m (k - 1) before (was .1) ∙ same in
+        let c : 0 ≡ rowsAdded k before s = sym (added-dup k before s a q) in
+        let old : RowsOf (earlier (m .text) (m .rows) (entry .first) (entry .rows)) (m .state .text) s =
+        subst (λ (x : List ℕ). RowsOf (earlier (m .text) (m .rows) (entry .first) (entry .rows)) (m .state .text) x) same (was .1 .rows) in
+        let f : 0 ≡ 5 * 0 = omega arith in
+        kept-read d text f c (omega arith) (entry .first) (entry .rows) 1
+        (headed (head.Dup (record { 0 = 1 })) (dup-head bytes dir cur k 1 (omega arith) (putsFrom (k + 1) s ss) (omega arith) h l)
+        ∙ pick-true _ _ (entry-fits m (k - 1) before (was .0) (was .1)))
+        (head-past bytes dir cur 5 5 1 (omega arith) (omega arith) (omega arith) (putsFrom (k + 1) s ss) l)
+        (rows-old m (r .counted) s good d text f (roomy d text f c (omega arith) (entry .first) (entry .rows) 1) (fits d text f c (omega arith) (entry .first) (entry .rows) 1)
+        (enough d text f c (omega arith) (entry .first) (entry .rows) 1) (entry .first) (entry .rows) 1 (entry .first) (entry .rows) old (was .1 .inside))
+        (omega (arith, was .1 .inside))
+
+    -- DIFF, leaning on the rows of an earlier name that is x
+    module _ (distance : ℕ) (e : Earlier) (x : List ℕ) (allowed : allAllowed x ≡ true) (o : RowsOf e (m .state .text) x) (added : rowsAdded k before s ≡ tokensIn s)
+        (q : readOf src m ≡ diffOf src m distance e) (l : Left bytes dir (headPast cur 6) (tokenPuts s 1 (choicesOf x s) ++ putsFrom (k + 1) s ss)) where
+      spelt : Spelt bytes dir s (m .state .text) 127 1 0 (draft [] [] 0 (headPast cur 6)) (putsFrom (k + 1) s ss) (nameOf src e (m .state .text) (headPast cur 6))
+      spelt = name-back bytes dir cur (headPast cur 6) e (m .state .text) x s (putsFrom (k + 1) s ss) allowed good o (head-later cur 6 (omega arith)) l
+
+      rows : spelt .draft .rows ≡ splitRows s (m .state .text)
+      unfolding splitRows
+      rows = spelt .rows
+
+      count : spelt .draft .count ≡ tokensIn s
+      unfolding tokensIn
+      count = omega (arith, spelt .count)
+
+      diff-back : ReadBack bytes dir cur m before s ss
+      unfolding diffOf namedOf
+      diff-back =
+          let d : Draft = spelt .draft in
+          let f : length (d .rows) ≡ 5 * d .count = ap length rows ∙ length-split s (m .state .text) ∙ ap (λ (n : ℕ). 5 * n) (sym count) in
+          let c : d .count ≡ rowsAdded k before s = count ∙ sym added in
+          let few : d .count ≤ 127 = omega (arith, count, tokens-most s) in
+          kept-read d (spelt .text) f c few (m .state .rows) (d .count) distance
+          (q ∙ ap (namedOf src m distance) (spelt .is)) (spelt .left)
+          (rows-new m (r .counted) s good d (spelt .text) f (roomy d (spelt .text) f c few (m .state .rows) (d .count) distance) (fits d (spelt .text) f c few (m .state .rows) (d .count) distance)
+          (enough d (spelt .text) f c few (m .state .rows) (d .count) distance) (m .state .rows) (d .count) distance rows count)
+          (omega arith)
+
+    first-back : k ≡ 0 → anew k ≡ true → ReadBack bytes dir cur m before s ss
+    unfolding referencePuts headPuts headedOf none
+    first-back z a =
+        let l : Left bytes dir cur (put (spanOf 0 0) (6 ∷ []) ∷ put (spanOf 0 6) (fourBytes 0) ∷ (tokenPuts s 1 (choicesOf [] s) ++ putsFrom (k + 1) s ss)) =
+        puts _ (puts-first k before s a) in
+        diff-back 0 (none m) [] (every-none isAllowed) (rows-nothing (m .text) (m .rows) (m .state .text)) (added-first k before s a)
+        (headed (head.Diff (record { 0 = 0 })) (first-head bytes dir cur k 0 (omega arith) (tokenPuts s 1 (choicesOf [] s) ++ putsFrom (k + 1) s ss) z refl l)
+        ∙ pick-true _ _ (eq-eqb 0 0 refl))
+        (head-past bytes dir cur 6 6 0 (omega arith) (omega arith) (omega arith) (tokenPuts s 1 (choicesOf [] s) ++ putsFrom (k + 1) s ss) l)
+
+    later-back : 1 ≤ k → anew k ≡ false → equal before s ≡ false → ReadBack bytes dir cur m before s ss
+    unfolding referencePuts headPuts headedOf rowsOf entryBack
+    later-back h a q =
+        let l : Left bytes dir cur (put (spanOf 0 0) (6 ∷ []) ∷ put (spanOf 0 6) (fourBytes 1) ∷ (tokenPuts s 1 (choicesOf before s) ++ putsFrom (k + 1) s ss)) =
+        puts _ (puts-diff k before s a q) in
+        let was = r .last h in
+        diff-back 1 (rowsOf m (entryBack m 1)) before (was .0 .allowed) (was .1 .rows) (added-diff k before s a q)
+        (headed (head.Diff (record { 0 = 1 })) (later-head bytes dir cur k 1 (omega arith) (tokenPuts s 1 (choicesOf before s) ++ putsFrom (k + 1) s ss) (omega arith) h l)
+        ∙ pick-false _ _ (ne-eqb 1 0 (λ (w : 1 ≡ 0). omega arith)) ∙ pick-true _ _ (entry-fits m (k - 1) before (was .0) (was .1)))
+        (head-past bytes dir cur 6 6 1 (omega arith) (omega arith) (omega arith) (tokenPuts s 1 (choicesOf before s) ++ putsFrom (k + 1) s ss) l)
+
+    -- the next name
+    pub read-back : ReadBack bytes dir cur m before s ss
+    unfolding anew
+    read-back =
+        by-test (anew k)
+        (λ a. first-back (eqb-true k 0 a) a)
+        (λ a.
+        let z : k ≡ 0 → ⊥ = eqb-false k 0 a in
+        let h : 1 ≤ k = omega (arith, z) in
+        by-test (equal before s) (dup-back h a) (later-back h a))

@@ -1,0 +1,272 @@
+-- Demand 2, "given room, reading those gives the same names back": whatever writing accepts, the whole-block read of what it wrote gives again.
+use Prim.Native.Nat.{ℕ, suc, _+_, _*_, _≤_, _<_}
+use mathlib.Core.Path.{_≡_, refl, sym, ap, _∙_, subst}
+use mathlib.Core.Bool.{true}
+use mathlib.Core.List.{List, []}
+use native.Mathlib.Omega.{arith}
+use native.Mathlib.Nat.{zero-add}
+use native.Mathlib.Numerals.{add-one}
+use borrow.Author.Tests.{leb-true, le-leb, eq-eqb}
+use lib.Dec.{leb, eqb}
+use lib.ListN.{length, getD}
+use Rattle.base.specs.Choice.{pick}
+use Rattle.base.specs.Memory.{part}
+use Rattle.base.proofs.Choice.{pick-true, pick-false, both-true, by-test}
+use Rattle.block.specs.declared.State.{State}
+use Rattle.block.specs.declared.Opened.the-variants as opened
+use Rattle.block.specs.declared.Refusal.{Refusal}
+use Rattle.block.specs.declared.Refusal.the-variants.{Plain, At}
+use Rattle.block.specs.Block.{Opening, opening, openOf, sound, starts, state}
+use Rattle.block.proofs.Laws.{sound-of, opens-fresh}
+use Rattle.kept.specs.Tables.{Kept, keeping}
+use Rattle.steps.specs.Source.{source}
+use Rattle.reading.specs.declared.Answer.the-variants as answer
+use Rattle.reading.specs.Reads.{Outcome, outcome}
+use Rattle.reading.specs.Blocks.{readsFrom, openedOf, blockOf}
+use Rattle.laying.specs.Puts.{directoryOf, totalOf, bytesOf}
+use Rattle.writing.specs.declared.Judged.{Judged}
+use Rattle.writing.specs.declared.Judged.the-variants.{Fine, Bad}
+use Rattle.writing.specs.declared.WriteAnswer.{WriteAnswer}
+use Rattle.writing.specs.declared.WriteAnswer.the-variants.{Written, Refused}
+use Rattle.writing.specs.Names.{namesAfter, namesOf, ended, judgedFrom}
+use Rattle.writing.specs.NamePuts.{putsOf}
+use Rattle.writing.specs.Writes.{Writing, writing, countable, laidOf, judgedOf, writeOf}
+use Rattle.roundtrip.specs.Room.{listed, textWanted, rowsFor, rowsWanted}
+use Rattle.roundtrip.specs.Back.{Roomy, NameIs, RowsAre, Back, InputBack, readTimes, OneByOne}
+use Rattle.roundtrip.specs.Layout.{LaidOut}
+use Rattle.roundtrip.specs.Demand.{ReadsBack, ReadsBackAmply, ReadsOneByOne, Opens, LaysOut, Nothing}
+use Rattle.roundtrip.proofs.Holding.{holds-part}
+use Rattle.roundtrip.proofs.Reading.{Reached}
+use Rattle.roundtrip.proofs.Blocks.{names-at, Whole, reads-back, calls-back, calls-done}
+use Rattle.roundtrip.proofs.Spans.{directory-length, start-is, end-is, span-size, ends-within, laid, laid-out, nothing-put}
+use Rattle.roundtrip.proofs.Inputs.{all-good, listed-length, listed-back, text-most, rows-most}
+
+-- good names, few enough, that were written where there was room
+module _ (names : List (List ℕ)) (fine : judgedFrom 0 names ≡ Fine) (few : length names ≤ 65536) (bytes : List ℕ) (room : totalOf (putsOf names) ≤ length bytes) where
+  abbrev dir : List ℕ
+  dir = directoryOf (putsOf names)
+
+  abbrev all : List ℕ
+  all = bytesOf (putsOf names) bytes
+
+  sounds : (cur : List ℕ) → length cur ≡ 1290 → sound (length all) dir cur ≡ true
+  sounds cur t =
+      sound-of (length all) dir cur (directory-length (putsOf names)) t
+      (λ i h. omega (arith, start-is (putsOf names) i h, end-is (putsOf names) i h, span-size (putsOf names) i))
+      (ends-within (putsOf names) bytes room)
+
+  -- opening accepts them
+  pub opens : (cur : List ℕ) → length cur ≡ 1290 → openOf (length all) dir (length names) cur ≡ opening (opened.Fresh (state (length names) 0 0 0)) (starts dir)
+  opens cur t = sym (opens-fresh (length all) dir (length names) cur (sounds cur t) few)
+
+  module _ (text table rows : List ℕ) where
+    -- what is kept when they are opened
+    abbrev fresh : Kept
+    fresh = keeping (state (length names) 0 0 0) text table rows
+
+    begun : Roomy names fresh → Reached all dir (starts dir) fresh [] names
+    unfolding putsOf rowsWanted
+    begun r =
+        record {
+          left = laid (putsOf names) bytes;
+          counted =
+              record {
+                kept = omega arith;
+                limit = few;
+                entries = omega arith;
+                used = omega arith;
+                most = omega arith;
+                rowsUsed = omega arith;
+                rowsMost = omega arith;
+              };
+          all = sym (zero-add (length names));
+          last = λ h. absurd (omega arith);
+          good = all-good names 0 fine;
+          texts = omega (arith, r .text);
+          entries = omega (arith, r .entries);
+          rows = omega (arith, r .rows);
+        }
+
+    abbrev result : Outcome
+    result = readsFrom all dir (length names + 1) (outcome answer.Done (starts dir) fresh)
+
+    reads : Roomy names fresh → Whole fresh [] names result
+    reads r = reads-back all dir (directory-length (putsOf names)) (ends-within (putsOf names) bytes room) names (length names + 1) answer.Done (starts dir) fresh [] (omega arith) (begun r)
+
+    results : Roomy names fresh → Back names result
+    unfolding rowsWanted
+    results r =
+        let w : Whole fresh [] names result = reads r in
+        let at : (i : ℕ) → i < length names → NameIs (result .kept) i (getD names i []) × RowsAre (result .kept) i (getD names i []) =
+        λ i h. subst (λ (n : ℕ). NameIs (result .kept) n (getD names i []) × RowsAre (result .kept) n (getD names i [])) (zero-add i) (names-at (result .kept) names 0 (w .each) i h) in
+        let used : result .kept .state .text ≡ textWanted names = ap (λ (x : State). x .text) (w .counts) ∙ zero-add (textWanted names) in
+        let long : result .kept .state .text ≡ 0 + length (listed names) = used ∙ sym (zero-add (textWanted names)) ∙ ap (λ (n : ℕ). 0 + n) (sym (listed-length names)) in
+        record {
+          answer = w .answer;
+          count = ap (λ (x : State). x .names) (w .counts) ∙ zero-add (length names);
+          each = λ i h. at i h .0;
+          tokens = λ i h. at i h .1;
+          text = ap (part (result .kept .text) 0) long ∙ holds-part (result .kept .text) 0 (listed names) (w .text);
+          used = used;
+          rows = ap (λ (x : State). x .rows) (w .counts) ∙ zero-add (rowsFor 0 [] names);
+        }
+
+  -- reading them gives the same names back
+  pub names-back : (cur : List ℕ) (m : Kept) → length cur ≡ 1290 → Roomy names m → Back names (blockOf (source all dir cur) m (length names))
+  unfolding blockOf openedOf
+  names-back cur m t r =
+      subst (λ (o : Opening). Back names (openedOf (source all dir cur) m (length names) (o .cursors) (o .answer))) (sym (opens cur t))
+      (results (m .text) (m .names) (m .rows) (record { text = r .text; entries = r .entries; rows = r .rows }))
+
+  -- and so does reading them one a call, from the cursors and the state that opening leaves
+  pub calls-names : (text table rows : List ℕ) → Roomy names (keeping (state (length names) 0 0 0) text table rows)
+      → OneByOne names all dir (outcome answer.Done (starts dir) (keeping (state (length names) 0 0 0) text table rows))
+  calls-names text table rows r =
+      let d = directory-length (putsOf names) in
+      let w = ends-within (putsOf names) bytes room in
+      let m : Kept = keeping (state (length names) 0 0 0) text table rows in
+      let o : Outcome = outcome answer.Done (starts dir) m in
+      let one : (i : ℕ) → i < length names → (readTimes all dir (suc i) o .answer ≡ answer.Kept (0 + i)) × NameIs (readTimes all dir (suc i) o .kept) (0 + i) (getD names i []) =
+      λ i h. calls-back all dir d w names i answer.Done (starts dir) m [] h (begun text table rows r) in
+      record {
+        answers = λ i h. ap (λ (n : ℕ). readTimes all dir n o .answer) (add-one i) ∙ one i h .0 ∙ ap answer.Kept (zero-add i);
+        keeps = λ i h. rw add-one (subst (λ (n : ℕ). NameIs (readTimes all dir (suc i) o .kept) n (getD names i [])) (zero-add i) (one i h .1));
+        done =
+            ap (λ (n : ℕ). readTimes all dir n o .answer) (add-one (length names))
+            ∙ calls-done all dir d w names answer.Done (starts dir) m [] (begun text table rows r);
+      }
+
+-- room that always suffices: 255 bytes of text, five numbers and 127 rows a name
+pub roomy-most : (names : List (List ℕ)) (m : Kept) → judgedFrom 0 names ≡ Fine → 255 * length names ≤ length (m .text) → 5 * length names ≤ length (m .names)
+    → 635 * length names ≤ length (m .rows) → Roomy names m
+roomy-most names m fine t e r =
+    record { text = omega (arith, text-most names (all-good names 0 fine)); entries = e; rows = omega (arith, rows-most names) }
+
+-- What an accepted writing tells
+
+pub record Accepted (input dir bytes : List ℕ) (n total : ℕ) : Type 0 where
+  pub ends : ended input ≡ true
+  pub few : length (namesOf input) ≤ 65536
+  pub fine : judgedFrom 0 (namesOf input) ≡ Fine
+  pub room : totalOf (putsOf (namesOf input)) ≤ length bytes
+  pub names : n ≡ length (namesOf input)
+  pub sum : total ≡ totalOf (putsOf (namesOf input))
+  pub is : writeOf input dir bytes ≡ writing (Written n total) (directoryOf (putsOf (namesOf input))) (bytesOf (putsOf (namesOf input)) bytes)
+
+-- a refusal is no accepted writing
+refused-not : {n total : ℕ} (w : Writing) {dir bytes : List ℕ} (r : Refusal) → w ≡ writing (Refused r) dir bytes → w .answer ≡ Written n total → ⊥
+refused-not {n} {total} w r e q =
+    let z : Refused r ≡ Written n total = sym (ap (λ (x : Writing). x .answer) e) ∙ q in
+    let y : _≡_ {A = ℕ} 0 1 = cc in omega arith
+
+module _ (input dir bytes : List ℕ) (n total : ℕ) (e : writeOf input dir bytes .answer ≡ Written n total) where
+  abbrev names : List (List ℕ)
+  names = namesOf input
+
+  counted : countable input ≡ true → (ended input ≡ true) × (length names ≤ 65536)
+  unfolding countable
+  counted c = let b = both-true (ended input) (leb (length names) 65536) c in (b .0, leb-true _ _ (b .1))
+
+  by-room : countable input ≡ true → judgedFrom 0 names ≡ Fine → writeOf input dir bytes ≡ laidOf names dir bytes → Accepted input dir bytes n total
+  unfolding laidOf
+  by-room c f w =
+      by-test (leb (totalOf (putsOf names)) (length bytes))
+      (λ t.
+      let q : writeOf input dir bytes ≡ writing (Written (length names) (totalOf (putsOf names))) (directoryOf (putsOf names)) (bytesOf (putsOf names) bytes) = w ∙ pick-true _ _ t in
+      let z : Written (length names) (totalOf (putsOf names)) ≡ Written n total = sym (ap (λ (x : Writing). x .answer) q) ∙ e in
+      record {
+        ends = counted c .0;
+        few = counted c .1;
+        fine = f;
+        room = leb-true _ _ t;
+        names = cc;
+        sum = cc;
+        is = q ∙ ap (λ (x : WriteAnswer). writing x (directoryOf (putsOf names)) (bytesOf (putsOf names) bytes)) z;
+      })
+      (λ t. absurd (refused-not (writeOf input dir bytes) (Plain 9) (w ∙ pick-false _ _ t) e))
+
+  by-judgement : countable input ≡ true → (j : Judged) → judgedFrom 0 names ≡ j → writeOf input dir bytes ≡ judgedOf j names dir bytes → Accepted input dir bytes n total
+  unfolding judgedOf
+  by-judgement c Fine f w = by-room c f w
+  by-judgement c (Bad k) f w = absurd (refused-not (writeOf input dir bytes) (At 8 k) w e)
+
+  pub accepted : Accepted input dir bytes n total
+  unfolding writeOf
+  accepted =
+      by-test (eqb (length dir) 2580)
+      (λ a.
+      by-test (countable input)
+      (λ c. by-judgement c (judgedFrom 0 names) refl (pick-true _ _ a ∙ pick-true _ _ c))
+      (λ c. absurd (refused-not (writeOf input dir bytes) (Plain 12) (pick-true _ _ a ∙ pick-false _ _ c) e)))
+      (λ a. absurd (refused-not (writeOf input dir bytes) (Plain 1) (pick-false _ _ a) e))
+
+  -- what was written is laid out span after span
+  pub written-laid : LaidOut (putsOf names) (writeOf input dir bytes .directory) (writeOf input dir bytes .bytes) bytes total
+  written-laid = rw (accepted .is, accepted .sum) (laid-out (putsOf names) bytes)
+
+  -- opening what was written, with any cursor table
+  pub written-opens : (cur : List ℕ) → length cur ≡ 1290
+      → openOf (length (writeOf input dir bytes .bytes)) (writeOf input dir bytes .directory) n cur ≡ opening (opened.Fresh (state n 0 0 0)) (starts (writeOf input dir bytes .directory))
+  written-opens cur t = rw (accepted .is, accepted .names) (opens names (accepted .fine) (accepted .few) bytes (accepted .room) cur t)
+
+  -- reading what was written, with room for the names, gives them back
+  pub written-back : (cur : List ℕ) (m : Kept) → length cur ≡ 1290 → Roomy names m
+      → InputBack input (blockOf (source (writeOf input dir bytes .bytes) (writeOf input dir bytes .directory) cur) m n)
+  written-back cur m t r =
+      let b : Back names (blockOf (source (bytesOf (putsOf names) bytes) (directoryOf (putsOf names)) cur) m (length names)) =
+      names-back names (accepted .fine) (accepted .few) bytes (accepted .room) cur m t r in
+      rw (accepted .is, accepted .names)
+      (record {
+        names = b;
+        text = b .text ∙ listed-back input (accepted .ends);
+        used = b .used ∙ sym (listed-length names) ∙ ap length (listed-back input (accepted .ends));
+      })
+
+  -- 255 bytes of text, five numbers and 127 rows a name are always enough
+  pub written-back-most : (cur : List ℕ) (m : Kept) → length cur ≡ 1290 → 255 * n ≤ length (m .text) → 5 * n ≤ length (m .names) → 635 * n ≤ length (m .rows)
+      → InputBack input (blockOf (source (writeOf input dir bytes .bytes) (writeOf input dir bytes .directory) cur) m n)
+  written-back-most cur m t a b c =
+      let q : n ≡ length names = accepted .names in
+      written-back cur m t (roomy-most names m (accepted .fine) (omega arith) (omega arith) (omega arith))
+
+  -- and one name a call
+  pub written-calls : (text table rows : List ℕ) → Roomy names (keeping (state n 0 0 0) text table rows)
+      → OneByOne names (writeOf input dir bytes .bytes) (writeOf input dir bytes .directory)
+      (outcome answer.Done (starts (writeOf input dir bytes .directory)) (keeping (state n 0 0 0) text table rows))
+  written-calls text table rows r =
+      rw (accepted .is, accepted .names)
+      (calls-names names (accepted .fine) (accepted .few) bytes (accepted .room) text table rows (record { text = r .text; entries = r .entries; rows = r .rows }))
+
+-- and what is in order is accepted
+pub accepts : (input dir bytes : List ℕ) → length dir ≡ 2580 → countable input ≡ true → judgedFrom 0 (namesOf input) ≡ Fine → totalOf (putsOf (namesOf input)) ≤ length bytes
+    → writeOf input dir bytes .answer ≡ Written (length (namesOf input)) (totalOf (putsOf (namesOf input)))
+unfolding writeOf judgedOf laidOf
+accepts input dir bytes d c f r =
+    ap (λ (w : Writing). w .answer)
+    (pick-true _ _ (eq-eqb _ _ d) ∙ pick-true _ _ c ∙ ap (λ (j : Judged). judgedOf j (namesOf input) dir bytes) f ∙ pick-true _ _ (le-leb _ _ r))
+
+-- the text that names want is the input's
+pub wanted-input : (input : List ℕ) → ended input ≡ true → textWanted (namesOf input) ≡ length input
+wanted-input input e = sym (listed-length (namesOf input)) ∙ ap length (listed-back input e)
+
+-- The demand
+
+pub reads-back-written : ReadsBack
+reads-back-written input dir bytes n total e cur m t r = written-back input dir bytes n total e cur m t r
+
+pub reads-back-amply : ReadsBackAmply
+reads-back-amply input dir bytes n total e cur m t a b c = written-back-most input dir bytes n total e cur m t a b c
+
+pub reads-one-by-one : ReadsOneByOne
+reads-one-by-one input dir bytes n total e text table rows r = written-calls input dir bytes n total e text table rows r
+
+pub opens-written : Opens
+opens-written input dir bytes n total e cur t = written-opens input dir bytes n total e cur t
+
+pub lays-out : LaysOut
+lays-out input dir bytes n total e = written-laid input dir bytes n total e
+
+pub writes-nothing : Nothing
+unfolding namesOf namesAfter ended judgedFrom countable pick
+writes-nothing dir bytes d =
+    accepts [] dir bytes d refl refl (omega (arith, nothing-put)) ∙ ap (Written 0) nothing-put

@@ -1,0 +1,134 @@
+-- One position read back: its type, then its value, or END.
+use Prim.Native.Nat.{ℕ, _+_, _≤_, _<_}
+use mathlib.Core.Path.{_≡_, refl, sym, ap, _∙_, subst}
+use mathlib.Core.Bool.{Bool, false}
+use mathlib.Core.List.{List, [], _∷_, _++_}
+use native.Mathlib.Omega.{arith}
+use borrow.Author.Tests.{ne-eqb}
+use lib.Dec.{eqb}
+use Rattle.base.proofs.Choice.{pick-true, both-left}
+use Rattle.spans.specs.declared.Cursor.{Cursor}
+use Rattle.spans.specs.declared.NextByte.the-variants as byte
+use Rattle.spans.specs.Spans.{cursor}
+use Rattle.block.specs.Block.{spanOf, cursorOf}
+use Rattle.block.proofs.Laws.{span-below}
+use Rattle.tokens.specs.declared.TokenType.{TokenType}
+use Rattle.tokens.specs.declared.TokenType.the-variants as type
+use Rattle.tokens.specs.declared.Token.{Token}
+use Rattle.steps.specs.declared.Step.the-variants as step
+use Rattle.steps.specs.Source.{source, Earlier, byteIn}
+use Rattle.steps.specs.Steps.{rowHere, matchAt, valueStep, carries, barred, typedStep, stepAt}
+use Rattle.steps.proofs.Picks.{pick-holds}
+use Rattle.steps.proofs.Ways.{typed-value}
+use Rattle.names.specs.Names.{past, typeIn, valuePast}
+use Rattle.laying.specs.Puts.{Put, put}
+use Rattle.splitting.specs.declared.Piece.{Piece}
+use Rattle.splitting.specs.declared.Piece.the-variants.{String, Char, Digits, Digits0}
+use Rattle.splitting.specs.declared.Choice.{Choice}
+use Rattle.splitting.specs.declared.Choice.the-variants.{Itself, Delta, Delta0, Match, End}
+use Rattle.writing.specs.NamePuts.{typeNumber, pieceType, choiceType, piecePuts, valuePuts, choicePuts}
+use Rattle.roundtrip.proofs.Eating.{Left, first, eat, eaten, Between}
+use Rattle.roundtrip.proofs.Fronts.{byte-first}
+use Rattle.roundtrip.proofs.Pieces.{Small}
+use Rattle.roundtrip.proofs.Leaning.{Right}
+use Rattle.roundtrip.proofs.Resolving.{type-back, Same, Valued, piece-valued, delta-valued, delta0-valued, repeated}
+
+-- the puts of a position are in its spans
+piece-between : (s : List ℕ) (p : ℕ) (x : Piece) → Between p (p + 1) (piecePuts s p x)
+unfolding Between piecePuts spanOf
+piece-between s p (String a e) = (omega arith, tt)
+piece-between s p (Char b) = (omega arith, tt)
+piece-between s p (Digits n) = (omega arith, tt)
+piece-between s p (Digits0 x) = (omega arith, (omega arith, tt))
+
+value-between : (s : List ℕ) (p : ℕ) (c : Choice) → Between p (p + 1) (valuePuts s p c)
+unfolding Between valuePuts spanOf
+value-between s p (Itself t) = piece-between s p t
+value-between s p (Delta d) = (omega arith, tt)
+value-between s p (Delta0 d) = (omega arith, tt)
+value-between s p Match = tt
+value-between s p End = tt
+
+pub choice-between : (s : List ℕ) (p : ℕ) (c : Choice) → Between p (p + 1) (choicePuts s p c)
+unfolding Between choicePuts spanOf
+choice-between s p c = (omega arith, value-between s p c)
+
+module _ (bytes dir cur : List ℕ) (e : Earlier) (p : ℕ) (low : 1 ≤ p) (high : p < 128) (s : List ℕ) (rest : List Put) (k : Cursor) where
+  choice-valued : (c : Choice) (x : Piece) → Small s x → Right e p s x c → Left bytes dir (past cur (spanOf p 0) 1) (valuePuts s p c ++ rest)
+      → Valued (source bytes dir cur) e p (past cur (spanOf p 0) 1) k (choiceType c) (valuePuts s p c) s x
+  unfolding choiceType valuePuts valueStep matchAt valuePast eaten
+  choice-valued (Itself t) x small right l =
+      subst (λ (y : Piece). Valued (source bytes dir cur) e p (past cur (spanOf p 0) 1) k (pieceType t) (piecePuts s p t) s y) right
+      (piece-valued bytes dir cur e p low high s rest k t (subst (Small s) (sym right) small) l)
+  choice-valued (Delta d) x small right l =
+      subst (λ (y : Piece). Valued (source bytes dir cur) e p (past cur (spanOf p 0) 1) k type.Delta (put (spanOf p 8) (d ∷ []) ∷ []) s y) (right .1)
+      (delta-valued bytes dir cur e p low high s rest k d (right .0) (subst (Small s) (sym (right .1)) small) l)
+  choice-valued (Delta0 d) x small right l =
+      subst (λ (y : Piece). Valued (source bytes dir cur) e p (past cur (spanOf p 0) 1) k type.Delta0 (put (spanOf p 9) (d ∷ []) ∷ []) s y) (right .1)
+      (delta0-valued bytes dir cur e p low high s rest k d (right .0) (subst (Small s) (sym (right .1)) small) l)
+  choice-valued Match x small right l =
+      let r = repeated bytes (e .text) (rowHere e p) s x (right .1) in
+      record {
+        token = r .token;
+        next = k;
+        gives = pick-true _ _ (right .0) ∙ ap (λ (t : Token). step.Got t k) (r .again);
+        same = r .same;
+        moved = refl;
+      }
+  choice-valued End x small right l = absurd right
+
+-- a token read back
+pub record Resolved (bytes dir cur : List ℕ) (e : Earlier) (p : ℕ) (s : List ℕ) (x : Piece) (c : Choice) : Type 0 where
+  pub token : Token
+  pub next : Cursor
+  pub gives : stepAt (source bytes dir cur) e p ≡ step.Got token next
+  pub same : Same bytes (e .text) s x token
+  pub moved : valuePast (typeIn (byteIn (source bytes dir cur) p 0)) p (next .0) (past cur (spanOf p 0) 1) ≡ eaten cur (choicePuts s p c)
+
+end-unbarred : (p : ℕ) → barred p type.End ≡ false
+unfolding barred carries
+end-unbarred p = pick-holds (λ (b : Bool). b ≡ false) (eqb p 128) false false (λ t. refl) (λ t. refl)
+
+module _ (bytes dir cur : List ℕ) (e : Earlier) (p : ℕ) (s : List ℕ) (c : Choice) (rest : List Put) (high : p ≤ 128) (l : Left bytes dir cur (choicePuts s p c ++ rest)) where
+  abbrev number : ℕ
+  number = typeNumber (choiceType c)
+
+  type-here : byteIn (source bytes dir cur) p 0 ≡ byte.Value number (cursor (cursorOf cur (spanOf p 0) + 1))
+  unfolding choicePuts
+  type-here = byte-first bytes dir cur p 0 number (first bytes dir cur (spanOf p 0) (number ∷ []) (valuePuts s p c ++ rest) (span-below p 0 high (omega arith)) l)
+
+  typed : barred p (choiceType c) ≡ false → stepAt (source bytes dir cur) e p ≡ valueStep (source bytes dir cur) e p (cursor (cursorOf cur (spanOf p 0) + 1)) (choiceType c)
+  unfolding stepAt
+  typed b =
+      ap (typedStep (source bytes dir cur) e p) type-here
+      ∙ sym (typed-value (source bytes dir cur) e p number (cursor (cursorOf cur (spanOf p 0) + 1)) (sym (type-back c)) b refl)
+
+  type-in : typeIn (byteIn (source bytes dir cur) p 0) ≡ choiceType c
+  unfolding typeIn
+  type-in = ap typeIn type-here ∙ type-back c
+
+  pub resolved : (x : Piece) → 1 ≤ p → p < 128 → Small s x → Right e p s x c → Resolved bytes dir cur e p s x c
+  unfolding choicePuts eaten barred
+  resolved x low below small right =
+      let k : Cursor = cursor (cursorOf cur (spanOf p 0) + 1) in
+      let v : Valued (source bytes dir cur) e p (past cur (spanOf p 0) 1) k (choiceType c) (valuePuts s p c) s x =
+      choice-valued bytes dir cur e p low below s rest k c x small right
+      (eat bytes dir cur (spanOf p 0) (number ∷ []) (valuePuts s p c ++ rest) (span-below p 0 high (omega arith)) l) in
+      record {
+        token = v .token;
+        next = v .next;
+        gives = typed (both-left (carries (choiceType c)) (ne-eqb p 128 (λ q. omega arith))) ∙ v .gives;
+        same = v .same;
+        moved = ap (λ (ty : TokenType). valuePast ty p (v .next .0) (past cur (spanOf p 0) 1)) type-in ∙ v .moved;
+      }
+
+-- END read back
+pub ended-back : (bytes dir cur : List ℕ) (e : Earlier) (p : ℕ) (s : List ℕ) (rest : List Put) → p ≤ 128 → Left bytes dir cur (choicePuts s p End ++ rest)
+    → stepAt (source bytes dir cur) e p ≡ step.End
+unfolding choiceType valueStep
+ended-back bytes dir cur e p s rest high l = typed bytes dir cur e p s End rest high l (end-unbarred p)
+
+pub ended-past : (bytes dir cur : List ℕ) (p : ℕ) (s : List ℕ) (rest : List Put) → p ≤ 128 → Left bytes dir cur (choicePuts s p End ++ rest)
+    → Left bytes dir (past cur (spanOf p 0) 1) rest
+unfolding choicePuts valuePuts
+ended-past bytes dir cur p s rest high l = eat bytes dir cur (spanOf p 0) (typeNumber (choiceType End) ∷ []) rest (span-below p 0 high (omega arith)) l

@@ -1,0 +1,58 @@
+-- What it means that names were read back.
+use Prim.Native.Nat.{ℕ, zero, suc, _+_, _*_, _≤_, _<_}
+use mathlib.Core.Path.{_≡_}
+use mathlib.Core.List.{List, []}
+use lib.ListN.{length, getD}
+use Rattle.base.specs.Memory.{part}
+use Rattle.kept.specs.Tables.{Kept, entryAt}
+use Rattle.reading.specs.declared.Answer.the-variants as answer
+use Rattle.steps.specs.Source.{source}
+use Rattle.reading.specs.Reads.{Outcome, readOf}
+use Rattle.writing.specs.Names.{namesOf}
+use Rattle.roundtrip.specs.Rows.{splitRows, tokensIn}
+use Rattle.roundtrip.specs.Room.{listed, textWanted, rowsWanted}
+
+-- there is room for names: their text with the byte 10 of each, five numbers a name, and five for each row that they add
+pub record Roomy (names : List (List ℕ)) (m : Kept) : Type 0 where
+  pub text : textWanted names ≤ length (m .text)
+  pub entries : 5 * length names ≤ length (m .names)
+  pub rows : 5 * rowsWanted names ≤ length (m .rows)
+
+-- kept name i is s: its entry's text is s, no more and no less
+pub record NameIs (m : Kept) (i : ℕ) (s : List ℕ) : Type 0 where
+  pub size : entryAt (m .names) i .length ≡ length s
+  pub text : part (m .text) (entryAt (m .names) i .start) (entryAt (m .names) i .start + entryAt (m .names) i .length) ≡ s
+
+-- kept name i's rows are those of s's own split, their texts in a text that is s: its own, or for a DUP that of the name it repeats
+pub record RowsAre (m : Kept) (i : ℕ) (s : List ℕ) : Type 0 where
+  pub many : entryAt (m .names) i .rows ≡ tokensIn s
+  pub origin : ℕ
+  pub text : part (m .text) origin (origin + length s) ≡ s
+  pub rows : part (m .rows) (5 * entryAt (m .names) i .first) (5 * (entryAt (m .names) i .first + entryAt (m .names) i .rows)) ≡ splitRows s origin
+
+-- a whole-block read that is done, has kept these names in order and no others; its used text is all of them, each with its byte 10
+pub record Back (names : List (List ℕ)) (o : Outcome) : Type 0 where
+  pub answer : o .answer ≡ answer.Done
+  pub count : o .kept .state .names ≡ length names
+  pub each : (i : ℕ) → i < length names → NameIs (o .kept) i (getD names i [])
+  pub tokens : (i : ℕ) → i < length names → RowsAre (o .kept) i (getD names i [])
+  pub text : part (o .kept .text) 0 (o .kept .state .text) ≡ listed names
+  pub used : o .kept .state .text ≡ textWanted names
+  pub rows : o .kept .state .rows ≡ rowsWanted names
+
+-- an input whose names were read back; the used text is the input
+pub record InputBack (input : List ℕ) (o : Outcome) : Type 0 where
+  pub names : Back (namesOf input) o
+  pub text : part (o .kept .text) 0 (o .kept .state .text) ≡ input
+  pub used : o .kept .state .text ≡ length input
+
+-- n reads, one after another
+unfoldable pub readTimes : List ℕ → List ℕ → ℕ → Outcome → Outcome
+readTimes bytes dir zero o = o
+readTimes bytes dir (suc n) o = readTimes bytes dir n (readOf (source bytes dir (o .cur)) (o .kept))
+
+-- names read one a call: read i, from 0 on, answers i and keeps name i, and one more read is done
+pub record OneByOne (names : List (List ℕ)) (bytes dir : List ℕ) (o : Outcome) : Type 0 where
+  pub answers : (i : ℕ) → i < length names → readTimes bytes dir (i + 1) o .answer ≡ answer.Kept i
+  pub keeps : (i : ℕ) → i < length names → NameIs (readTimes bytes dir (i + 1) o .kept) i (getD names i [])
+  pub done : readTimes bytes dir (length names + 1) o .answer ≡ answer.Done

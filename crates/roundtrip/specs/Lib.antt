@@ -1,0 +1,5 @@
+pub mod Rows
+pub mod Room
+pub mod Back
+pub mod Layout
+pub mod Demand

@@ -1,0 +1,145 @@
+-- From the passes to the answer: what each call of writing leaves is what the definition says.
+use Prim.Native.Nat.{ℕ, zero, suc, _+_, _-_, _*_, _^_, _≤_, _<_}
+use mathlib.Core.Path.{_≡_, refl, sym, ap, _∙_, subst}
+use mathlib.Core.Bool.{Bool, true, false}
+use mathlib.Core.List.{List, [], _∷_, _++_}
+use native.Mathlib.Omega.{arith}
+use borrow.Author.Tests.{eq-eqb, ne-eqb, le-leb, lt-leb}
+use lib.ListN.{length}
+use Rattle.base.specs.Choice.{pick, both}
+use Rattle.base.proofs.Choice.{took, left, both-of, both-left, both-right}
+use Rattle.block.specs.declared.Refusal.the-variants.{Plain, At}
+use Rattle.laying.specs.declared.Pass.the-variants.{Total, Sizes, Fill}
+use Rattle.laying.specs.Puts.{Put, startIn, tableOf, totalOf, directoryOf, bytesOf}
+use Rattle.laying.specs.Passes.{World, world, runOf, Roomy, offsetIn, placesOf, cleared}
+use Rattle.laying.proofs.Passes.{Inside, sizeOf, size-total, total-run, total-roomy}
+use Rattle.laying.proofs.Filling.{fill-room, fill-all, sizesIn, sizes-room, sizes-all, length-sizes, places-start, places-total}
+use Rattle.writing.specs.declared.Judged.{Judged}
+use Rattle.writing.specs.declared.Judged.the-variants.{Fine, Bad}
+use Rattle.writing.specs.declared.WriteAnswer.{WriteAnswer}
+use Rattle.writing.specs.declared.WriteAnswer.the-variants.{Written, Refused}
+use Rattle.writing.specs.Names.{namesOf, ended, judgedFrom}
+use Rattle.writing.specs.NamePuts.{putsOf, putsFrom}
+use Rattle.writing.specs.Writes.{Writing, writing, countable, Ready, laidOf, judgedOf, writeOf}
+use Rattle.writing.proofs.Totals.{puts-inside, total-below}
+
+-- all that the names of an input put
+abbrev pub putsIn : List ℕ → List Put
+putsIn input = putsOf (namesOf input)
+
+inside : (input : List ℕ) → Inside (putsIn input)
+unfolding putsOf
+inside input = puts-inside 0 [] (namesOf input)
+
+total-size : (input : List ℕ) → sizeOf (putsIn input) ≡ totalOf (putsIn input)
+total-size input = size-total (putsIn input) (inside input)
+
+module _ (input dir bytes : List ℕ) (k : Ready input dir) where
+  below : totalOf (putsIn input) < 2 ^ 32
+  below = total-below (namesOf input) (k .fine) (k .few)
+
+  size-below : sizeOf (putsIn input) < 2 ^ 32
+  size-below = omega (arith, below, total-size input)
+
+  -- The total
+
+  pub total-room : Roomy Total (putsIn input) (world 0 dir bytes)
+  total-room = total-roomy (putsIn input) 0 dir bytes (inside input) (k .table) (omega (arith, size-below))
+
+  module _ {t : ℕ} {d y : List ℕ} (e : world t d y ≡ runOf Total (putsIn input) (world 0 dir bytes)) where
+    all : world t d y ≡ world (0 + sizeOf (putsIn input)) dir bytes
+    all = e ∙ total-run (putsIn input) 0 dir bytes
+
+    pub total-is : t ≡ totalOf (putsIn input)
+    total-is = ap (λ (w : World). w .total) all ∙ omega (arith, total-size input)
+
+    pub same-dir : d ≡ dir
+    same-dir = ap (λ (w : World). w .dir) all
+
+    pub same-bytes : y ≡ bytes
+    same-bytes = ap (λ (w : World). w .bytes) all
+
+    pub no-room : length y < t → writing (Refused (Plain 9)) d y ≡ laidOf (namesOf input) dir bytes
+    unfolding laidOf
+    no-room h =
+        let l : length bytes < totalOf (putsIn input) = omega (arith, total-is, ap length same-bytes) in
+        left _ _ (lt-leb _ _ l) (ap (λ (x : List ℕ). writing (Refused (Plain 9)) x y) same-dir ∙ ap (λ (x : List ℕ). writing (Refused (Plain 9)) dir x) same-bytes)
+
+    pub room : t ≤ length y → totalOf (putsIn input) ≤ length y
+    room h = omega (arith, total-is)
+
+    pub still-ready : Ready input d
+    still-ready = subst (λ (x : List ℕ). Ready input x) (sym same-dir) k
+
+    pub done : {n : ℕ} {a b : List ℕ} → n ≡ length (namesOf input) → t ≤ length y → a ≡ directoryOf (putsIn input) → b ≡ bytesOf (putsIn input) y
+        → writing (Written n t) a b ≡ laidOf (namesOf input) dir bytes
+    unfolding laidOf
+    done {n} {a} {b} p h q r =
+        let l : totalOf (putsIn input) ≤ length bytes = omega (arith, total-is, ap length same-bytes) in
+        let s : b ≡ bytesOf (putsIn input) bytes = r ∙ ap (bytesOf (putsIn input)) same-bytes in
+        took _ _ (le-leb _ _ l) (rw (p, total-is, q, s))
+
+  -- Sizes, places, bytes
+
+  module _ (h : totalOf (putsIn input) ≤ length bytes) where
+    pub first-room : {a : List ℕ} → a ≡ cleared → Roomy Sizes (putsIn input) (world 0 a bytes)
+    first-room e = subst (λ (x : List ℕ). Roomy Sizes (putsIn input) (world 0 x bytes)) (sym e) (sizes-room (putsIn input) bytes (inside input) size-below)
+
+    module _ {a b y : List ℕ} {t : ℕ} (e : a ≡ cleared) (f : world t b y ≡ runOf Sizes (putsIn input) (world 0 a bytes)) where
+      counted : world t b y ≡ world (0 + sizeOf (putsIn input)) (sizesIn (putsIn input)) bytes
+      counted = f ∙ ap (λ (x : List ℕ). runOf Sizes (putsIn input) (world 0 x bytes)) e ∙ sizes-all (putsIn input) bytes (inside input)
+
+      sizes : b ≡ sizesIn (putsIn input)
+      sizes = ap (λ (w : World). w .dir) counted
+
+      pub places-room : (length b ≡ 2580) × (offsetIn b 1290 < 2 ^ 32)
+      places-room = (ap length sizes ∙ length-sizes (putsIn input), omega (arith, ap (λ (x : List ℕ). offsetIn x 1290) sizes, places-total (putsIn input), below))
+
+      module _ {c : List ℕ} (g : c ≡ placesOf b) where
+        at : world 0 c y ≡ world 0 (tableOf (startIn (putsIn input)) (startIn (putsIn input))) bytes
+        at =
+            ap (λ (x : List ℕ). world 0 x y) (g ∙ ap placesOf sizes ∙ places-start (putsIn input))
+            ∙ ap (λ (x : List ℕ). world 0 (tableOf (startIn (putsIn input)) (startIn (putsIn input))) x) (ap (λ (w : World). w .bytes) counted)
+
+        pub last-room : Roomy Fill (putsIn input) (world 0 c y)
+        last-room = subst (λ (w : World). Roomy Fill (putsIn input) w) (sym at) (fill-room (putsIn input) bytes (inside input) h below)
+
+        pub filled : {d z : List ℕ} {u : ℕ} → world u d z ≡ runOf Fill (putsIn input) (world 0 c y) → (d ≡ directoryOf (putsIn input)) × (z ≡ bytesOf (putsIn input) bytes)
+        filled i =
+            let j = i ∙ ap (runOf Fill (putsIn input)) at ∙ fill-all (putsIn input) bytes (inside input) h in
+            (ap (λ (w : World). w .dir) j, ap (λ (w : World). w .bytes) j)
+
+-- The answer
+
+pub countable-of : (input : List ℕ) → ended input ≡ true → length (namesOf input) ≤ 65536 → countable input ≡ true
+unfolding countable
+countable-of input e h = both-of e (le-leb _ _ h)
+
+pub unended : (input : List ℕ) → ended input ≡ false → countable input ≡ false
+unfolding countable
+unended input e = both-left _ e
+
+pub too-many : (input : List ℕ) → ended input ≡ true → 65536 < length (namesOf input) → countable input ≡ false
+unfolding countable
+too-many input e h = both-right e (lt-leb _ _ h)
+
+module _ (input dir bytes : List ℕ) where
+  pub refused-1 : (length dir ≡ 2580 → ⊥) → writing (Refused (Plain 1)) dir bytes ≡ writeOf input dir bytes
+  unfolding writeOf
+  refused-1 f = left _ _ (ne-eqb _ _ f) refl
+
+  pub refused-12 : length dir ≡ 2580 → countable input ≡ false → writing (Refused (Plain 12)) dir bytes ≡ writeOf input dir bytes
+  unfolding writeOf
+  refused-12 e f = took _ _ (eq-eqb _ _ e) (left _ _ f refl)
+
+  pub judged : {j : Judged} {w : Writing} → length dir ≡ 2580 → countable input ≡ true → judgedFrom 0 (namesOf input) ≡ j → w ≡ judgedOf j (namesOf input) dir bytes → w ≡ writeOf input dir bytes
+  unfolding writeOf
+  judged e f g h = took _ _ (eq-eqb _ _ e) (took _ _ f (rw g h))
+
+  pub refused-8 : (n : ℕ) → writing (Refused (At 8 n)) dir bytes ≡ judgedOf (Bad n) (namesOf input) dir bytes
+  unfolding judgedOf
+  refused-8 n = refl
+
+  pub accepted : {w : Writing} → w ≡ laidOf (namesOf input) dir bytes → w ≡ judgedOf Fine (namesOf input) dir bytes
+  unfolding judgedOf
+  accepted e = e

@@ -1,0 +1,61 @@
+use Rattle.writing.proofs.PutLaws.{choice-room, choice-ran}
+use Rattle.writing.specs.NamePuts.{typeNumber, choiceType, valuePuts}
+use Rattle.laying.specs.Passes.{World, world, stepOf, Roomy}
+use Rattle.laying.specs.Puts.{put}
+use mathlib.Core.List.{List, [], _∷_, _++_}
+use Prim.Native.Nat.{ℕ, suc, _+_, _-_, _*_, _≤_, _<_}
+use denote.Ref.{now}
+use mathlib.Core.Path.{_≡_, refl, sym, ap, _∙_, subst}
+use borrow.Author.Needs.{needs}
+use Rattle.writing.proofs.puts.put_choice.Statement.{statement}
+use Rattle.writing.proofs.puts.put_choice.Tie as tie
+
+choice-type-requires : tie.Need-choice-type-requires
+choice-type-requires c κs = search needs
+
+type-number-requires : tie.Need-type-number-requires
+type-number-requires c κs = search needs
+
+mul-put-byte : tie.Need-mul-put-byte
+mul-put-byte c = search needs
+
+put-byte-requires : tie.Need-put-byte-requires
+put-byte-requires c κs =
+    let s = c .before .before .before .before .before .before .before in
+    let a = s .args in
+    choice-room (a .pass) (now (a .name)) (a .p) (a .c) (world (a .total) (now (a .directory)) (now (a .bytes))) (s .pre .1) .0
+
+put-value-requires : tie.Need-put-value-requires
+put-value-requires c κs =
+    let s = c .before .before .before .before .before .before .before .before .before .before .before .before .before .before in
+    let a = s .args in
+    let e = c .before .before .before .before .before .before .before .before .before .type-number .ensures ∙ ap typeNumber (c .before .before .before .before .before .before .before .before .before .before .choice-type .ensures) in
+    let d = c .before .before .before .before .before .before .put-byte .ensures ∙ ap (λ (n : ℕ). stepOf (a .pass) (put (10 * a .p) (n ∷ [])) (world (a .total) (now (a .directory)) (now (a .bytes)))) e in
+    (s .pre .0, subst (λ (w : World). Roomy (a .pass) (valuePuts (now (a .name)) (a .p) (a .c)) w) (sym d) (choice-room (a .pass) (now (a .name)) (a .p) (a .c) (world (a .total) (now (a .directory)) (now (a .bytes))) (s .pre .1) .1))
+
+same-length : tie.Need-same-length
+same-length c = search needs
+
+same-length-2 : tie.Need-same-length-2
+same-length-2 c = search needs
+
+returns : tie.Need-returns
+returns c =
+    let s = c .before .before .before .before .before .before .before .before .before .before .before .before .before .before .before .before .before .before .before in
+    let a = s .args in
+    let e = c .before .before .before .before .before .before .before .before .before .before .before .before .before .before .type-number .ensures ∙ ap typeNumber (c .before .before .before .before .before .before .before .before .before .before .before .before .before .before .before .choice-type .ensures) in
+    let d = c .before .before .before .before .before .before .before .before .before .before .before .put-byte .ensures ∙ ap (λ (n : ℕ). stepOf (a .pass) (put (10 * a .p) (n ∷ [])) (world (a .total) (now (a .directory)) (now (a .bytes)))) e in
+    choice-ran (a .pass) (now (a .name)) (a .p) (a .c) (world (a .total) (now (a .directory)) (now (a .bytes))) _ _ d (c .before .before .before .before .put-value .ensures)
+
+pub put-choice-spec : {M : Type 1} → statement M
+put-choice-spec =
+    tie.close
+    (tie.spec
+    choice-type-requires
+    type-number-requires
+    mul-put-byte
+    put-byte-requires
+    put-value-requires
+    same-length
+    same-length-2
+    returns)

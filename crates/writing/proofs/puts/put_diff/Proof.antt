@@ -1,0 +1,38 @@
+use Rattle.laying.proofs.Passes.{run-append, roomy-append}
+use Rattle.writing.specs.NamePuts.{tokenPuts, headPuts}
+use Rattle.splitting.specs.Choices.{choicesOf}
+use Rattle.laying.specs.Passes.{World, world, runOf, Roomy}
+use native.Mathlib.Omega.{arith}
+use denote.Ref.{now}
+use mathlib.Core.Path.{_≡_, refl, sym, ap, _∙_, subst}
+use borrow.Author.Needs.{needs}
+use Rattle.writing.proofs.puts.put_diff.Statement.{statement}
+use Rattle.writing.proofs.puts.put_diff.Tie as tie
+
+put-head-requires : tie.Need-put-head-requires
+put-head-requires c κs =
+    let s = c .before .before .before .before .before .before in
+    let a = s .args in
+    (omega arith, roomy-append (a .pass) (headPuts 6 (a .distance .0)) (tokenPuts (now (a .name)) 1 (choicesOf (now (a .before)) (now (a .name)))) (world (a .total) (now (a .directory)) (now (a .bytes))) (s .pre .1) .0)
+
+put-tokens-requires : tie.Need-put-tokens-requires
+put-tokens-requires c κs =
+    let s = c .before .before .before .before .before .before .before .before .before .before .before .before .before in
+    let a = s .args in
+    (s .pre .0, subst (λ (w : World). Roomy (a .pass) (tokenPuts (now (a .name)) 1 (choicesOf (now (a .before)) (now (a .name)))) w) (sym (c .before .before .before .before .before .before .put-head .ensures)) (roomy-append (a .pass) (headPuts 6 (a .distance .0)) (tokenPuts (now (a .name)) 1 (choicesOf (now (a .before)) (now (a .name)))) (world (a .total) (now (a .directory)) (now (a .bytes))) (s .pre .1) .1))
+
+same-length : tie.Need-same-length
+same-length c = search needs
+
+same-length-2 : tie.Need-same-length-2
+same-length-2 c = search needs
+
+returns : tie.Need-returns
+returns c =
+    let s = c .before .before .before .before .before .before .before .before .before .before .before .before .before .before .before .before .before .before in
+    let a = s .args in
+    c .before .before .before .before .put-tokens .ensures ∙ ap (runOf (a .pass) (tokenPuts (now (a .name)) 1 (choicesOf (now (a .before)) (now (a .name))))) (c .before .before .before .before .before .before .before .before .before .before .before .put-head .ensures) ∙ sym (run-append (a .pass) (headPuts 6 (a .distance .0)) (tokenPuts (now (a .name)) 1 (choicesOf (now (a .before)) (now (a .name)))) (world (a .total) (now (a .directory)) (now (a .bytes))))
+
+pub put-diff-spec : {M : Type 1} → statement M
+put-diff-spec =
+    tie.close (tie.spec put-head-requires put-tokens-requires same-length same-length-2 returns)

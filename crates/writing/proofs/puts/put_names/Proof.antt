@@ -1,0 +1,126 @@
+use Rattle.writing.proofs.Walks.{Naming, names-start, names-room, names-more, names-count, names-end}
+use Rattle.base.specs.Memory.{part}
+use native.Mathlib.Nat.{le-of-lt}
+use Rattle.laying.specs.Passes.{World, world, runOf, Roomy}
+use native.Mathlib.Omega.{arith}
+use lib.ListN.{length}
+use Prim.Native.Nat.{ℕ, suc, _+_, _-_, _*_, _≤_, _<_}
+use denote.Ref.{now}
+use mathlib.Core.Path.{_≡_, refl, sym, ap, _∙_, subst}
+use Rattle.writing.proofs.puts.put_names.Statement.{statement}
+use Rattle.writing.proofs.puts.put_names.Tie as tie
+
+abbrev Inv-loop : tie.InvT-loop
+Inv-loop pass directory₀ bytes₀ table input total₀ n₀ from₀ to₀ start₀ directory bytes total n from to start = (length directory ≡ length directory₀) × ((length bytes ≡ length bytes₀) × Naming pass input (world 0 directory₀ bytes₀) (world total directory bytes) n from to start)
+
+abbrev μ-loop : tie.MeasureT-loop
+μ-loop pass directory₀ bytes₀ table input total₀ n₀ from₀ to₀ start₀ directory bytes total n from to start = length input - start
+
+loop-holds : tie.Need-loop-holds Inv-loop μ-loop
+loop-holds c =
+    let s = c .before .before .before in
+    let a = s .args in
+    (refl, (refl, names-start (a .pass) (now (a .input)) (world 0 (now (a .directory)) (now (a .bytes))) (s .pre .1 .1)))
+
+name-end-requires : tie.Need-name-end-requires Inv-loop μ-loop
+name-end-requires c κs = (c .loop-test .taken, c .before .before .before .before .before .pre .1 .0 .0)
+
+sub-put-name : tie.Need-sub-put-name Inv-loop μ-loop
+sub-put-name c = c .before .before .before .before .loop .inv .1 .1 .low
+
+part-put-name-start : tie.Need-part-put-name-start Inv-loop μ-loop
+part-put-name-start c = c .before .before .before .before .loop .inv .1 .1 .low
+
+part-put-name-end : tie.Need-part-put-name-end Inv-loop μ-loop
+part-put-name-end c = c .before .before .before .before .loop .inv .1 .1 .high
+
+sub-put-name-2 : tie.Need-sub-put-name-2 Inv-loop μ-loop
+sub-put-name-2 c = c .before .before .before .name-end .ensures .low
+
+part-put-name-start-2 : tie.Need-part-put-name-start-2 Inv-loop μ-loop
+part-put-name-start-2 c = c .before .before .before .name-end .ensures .low
+
+part-put-name-end-2 : tie.Need-part-put-name-end-2 Inv-loop μ-loop
+part-put-name-end-2 c = le-of-lt (c .before .before .before .name-end .ensures .high)
+
+put-name-requires : tie.Need-put-name-requires Inv-loop μ-loop
+unfolding part
+put-name-requires c κs =
+    let l = c .before .before .before .before .before .before .loop in
+    let s = c .before .before .before .before .before .before .before .before .before .before in
+    let a = s .args in
+    (s .pre .0, names-room (a .pass) (now (a .input)) (world 0 (now (a .directory)) (now (a .bytes))) (world (l .total) (l .directory) (l .bytes)) (l .n) (l .from) (l .to) (l .start) (l .inv .1 .1) _ (c .before .before .before .before .name-end .ensures))
+
+add-start : tie.Need-add-start Inv-loop μ-loop
+add-start c =
+    let l = c .before .before .before .before .before .before .before .before .before .before .before .loop in
+    let s = c .before .before .before .before .before .before .before .before .before .before .before .before .before .before .before in
+    let a = s .args in
+    let h : c .before .before .before .before .before .before .before .before .before .name-end .result < length (now (a .input)) = c .before .before .before .before .before .before .before .before .before .name-end .ensures .high in
+    omega arith
+
+add-n : tie.Need-add-n Inv-loop μ-loop
+add-n c =
+    let l = c .before .before .before .before .before .before .before .before .before .before .before .loop in
+    let s = c .before .before .before .before .before .before .before .before .before .before .before .before .before .before .before in
+    let a = s .args in
+    let h = names-count (a .pass) (now (a .input)) (world 0 (now (a .directory)) (now (a .bytes))) (world (l .total) (l .directory) (l .bytes)) (l .n) (l .from) (l .to) (l .start) (l .inv .1 .1) _ (c .before .before .before .before .before .before .before .before .before .name-end .ensures) in
+    omega (arith, s .pre .1 .0 .1)
+
+loop-less : tie.Need-loop-less Inv-loop μ-loop
+loop-less c =
+    let l = c .before .before .before .before .before .before .before .before .before .before .before .loop in
+    let s = c .before .before .before .before .before .before .before .before .before .before .before .before .before .before .before in
+    let a = s .args in
+    let e = c .before .before .before .before .before .before .before .before .before .name-end .ensures in
+    omega (arith, e .low, e .high)
+
+loop-again : tie.Need-loop-again Inv-loop μ-loop
+unfolding part
+loop-again c =
+    let l = c .before .before .before .before .before .before .before .before .before .before .before .loop in
+    let s = c .before .before .before .before .before .before .before .before .before .before .before .before .before .before .before in
+    let a = s .args in
+    let k = c .before .before .before .before .put-name .kept in (
+      k .1 .1 .0 ∙ l .inv .0,
+      (
+        k .1 .1 .1 .0 ∙ l .inv .1 .0,
+        names-more (a .pass) (now (a .input)) (world 0 (now (a .directory)) (now (a .bytes))) (world (l .total) (l .directory) (l .bytes)) (l .n) (l .from) (l .to) (l .start) (l .inv .1 .1) _ (c .before .before .before .before .before .before .before .before .before .name-end .ensures) (c .before .before .before .before .put-name .ensures),
+      ),
+    )
+
+same-length : tie.Need-same-length Inv-loop μ-loop
+same-length c = c .before .loop .inv .0
+
+same-length-2 : tie.Need-same-length-2 Inv-loop μ-loop
+same-length-2 c = c .before .loop .inv .1 .0
+
+returns : tie.Need-returns Inv-loop μ-loop
+returns c =
+    let l = c .before .loop in
+    let s = c .before .before .before .before .before in
+    let a = s .args in
+    names-end (a .pass) (now (a .input)) (world 0 (now (a .directory)) (now (a .bytes))) (world (l .total) (l .directory) (l .bytes)) (l .n) (l .from) (l .to) (l .start) (l .inv .1 .1) (c .loop-test .left)
+
+pub put-names-spec : {M : Type 1} → statement M
+put-names-spec =
+    tie.close
+    (tie.spec
+    Inv-loop
+    μ-loop
+    loop-holds
+    name-end-requires
+    sub-put-name
+    part-put-name-start
+    part-put-name-end
+    sub-put-name-2
+    part-put-name-start-2
+    part-put-name-end-2
+    put-name-requires
+    add-start
+    add-n
+    loop-less
+    loop-again
+    same-length
+    same-length-2
+    returns)

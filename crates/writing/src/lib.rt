@@ -1,0 +1,84 @@
+// Writing: names, each ended by byte 10, into token streams.
+// Judged first, with nothing written; then sizes, places and bytes, the directory counting on the way.
+ghost use mathlib.Core.Path.{_≡_};
+ghost use Prim.Native.Nat.{_≤_};
+ghost use lib.ListN.{length};
+ghost use Rattle.classes.specs.Classes.{classTable};
+ghost use Rattle.laying.specs.Puts.{totalOf, directoryOf, bytesOf};
+ghost use Rattle.writing.specs.Names.{namesOf};
+ghost use Rattle.writing.specs.NamePuts.{putsOf};
+ghost use Rattle.writing.specs.Writes.{Ready, writing, laidOf, writeOf};
+use block::Block;
+use block::Refusal;
+use laying::Pass;
+
+pub mod names;
+pub mod puts;
+
+// The first name that SAM does not allow, if there is one.
+pub enum Judged {
+    Fine,
+    Bad(u32),
+}
+
+pub enum WriteAnswer {
+    Written { names: u32, bytes: u32 },
+    Refused(Refusal),
+}
+
+// Sizes, places, bytes.
+fn fill(directory: &mut [u32], bytes: &mut [u8], table: &[u8; 256], input: &[u8])
+    requires { ⌜ now table ≡ classTable ⌝ }
+    requires { ⌜ Ready (now input) (now directory) ⌝ }
+    requires { ⌜ totalOf (putsOf (namesOf (now input))) ≤ length (now bytes) ⌝ }
+    ensures { λ _. ⌜ (now (directory .exit) ≡ directoryOf (putsOf (namesOf (now (input .entry))))) × (now (bytes .exit) ≡ bytesOf (putsOf (namesOf (now (input .entry)))) (now (bytes .entry))) ⌝ }
+{
+    laying::clear(directory);
+    puts::put_names(Pass::Sizes, directory, bytes, table, input);
+    laying::lay_out(directory);
+    puts::put_names(Pass::Fill, directory, bytes, table, input);
+}
+
+// Refusal 9, or all of it.
+fn lay(
+    directory: &mut [u32],
+    bytes: &mut [u8],
+    table: &[u8; 256],
+    input: &[u8],
+    names: u32,
+) -> WriteAnswer
+    requires { ⌜ now table ≡ classTable ⌝ }
+    requires { ⌜ Ready (now input) (now directory) ⌝ }
+    requires { ⌜ names ≡ length (namesOf (now input)) ⌝ }
+    ensures { λ r. ⌜ writing r (now (directory .exit)) (now (bytes .exit)) ≡ laidOf (namesOf (now (input .entry))) (now (directory .entry)) (now (bytes .entry)) ⌝ }
+{
+    let total = puts::put_names(Pass::Total, directory, bytes, table, input);
+    if bytes.len() < total as usize {
+        return WriteAnswer::Refused(Refusal::Plain(9));
+    }
+    fill(directory, bytes, table, input);
+    WriteAnswer::Written {
+        names,
+        bytes: total,
+    }
+}
+
+pub fn write(input: &[u8], directory: &mut [u32], bytes: &mut [u8]) -> WriteAnswer
+    ensures { λ r. ⌜ writing r (now (directory .exit)) (now (bytes .exit)) ≡ writeOf (now (input .entry)) (now (directory .entry)) (now (bytes .entry)) ⌝ }
+{
+    if directory.len() != Block::DIRECTORY {
+        return WriteAnswer::Refused(Refusal::Plain(1));
+    }
+    if !names::all_ended(input) {
+        return WriteAnswer::Refused(Refusal::Plain(12));
+    }
+    let count = names::count(input);
+    if (Block::NAMES as usize) < count {
+        return WriteAnswer::Refused(Refusal::Plain(12));
+    }
+    let table = classes::table();
+    match names::judge(&table, input) {
+        Judged::Bad(n) => WriteAnswer::Refused(Refusal::At(8, n)),
+        Judged::Fine => lay(directory, bytes, &table, input, count as u32),
+    }
+}
