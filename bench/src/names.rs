@@ -1,0 +1,92 @@
+//! Names as instruments give them, made from a seed.
+
+use second::cases::random::Random;
+
+/// A family of names: the name that follows, from what went before.
+pub struct Family {
+    pub word: &'static str,
+    next: fn(&mut Random, &mut [usize; 2]) -> String,
+}
+
+pub const FAMILIES: [Family; 4] = [
+    Family {
+        word: "Illumina-like",
+        next: illumina,
+    },
+    Family {
+        word: "PacBio-like",
+        next: pacbio,
+    },
+    Family {
+        word: "Nanopore-like",
+        next: nanopore,
+    },
+    Family {
+        word: "random",
+        next: random,
+    },
+];
+
+pub const ILLUMINA: &Family = &FAMILIES[0];
+
+impl Family {
+    /// So many names, each ended by byte 10.
+    pub fn input(&self, count: u32) -> Vec<u8> {
+        let mut random = Random::new(0x6E61_6D65);
+        let mut last = [1_000, 1_000];
+        let mut input = Vec::new();
+        for _ in 0..count {
+            input.extend((self.next)(&mut random, &mut last).bytes());
+            input.push(b'\n');
+        }
+        input
+    }
+}
+
+/// Clusters of a tile in order of one coordinate, the other one anywhere.
+fn illumina(random: &mut Random, last: &mut [usize; 2]) -> String {
+    last[0] += random.below(3);
+    let (x, y) = (last[0] % 33_000, random.between(1_000, 37_000));
+    format!("A00253:148:HM7TYDSXX:1:1101:{x}:{y}")
+}
+
+/// Several passes of a hole, one behind the other.
+fn pacbio(random: &mut Random, last: &mut [usize; 2]) -> String {
+    if random.percent(30) {
+        *last = [last[0] + random.between(1, 600), 0];
+    }
+    let start = last[1];
+    last[1] += random.between(500, 15_000);
+    format!("m64011_190830_220126/{}/{start}_{}", last[0], last[1])
+}
+
+/// A random 128-bit identifier.
+fn nanopore(random: &mut Random, _: &mut [usize; 2]) -> String {
+    let mut part = |digits: u32| {
+        let number = u64::from(random.number()) << 32 | u64::from(random.number());
+        let width = digits as usize;
+        format!("{:0width$x}", number >> (64 - 4 * digits))
+    };
+    let groups = [8, 4, 4, 4, 12].map(&mut part);
+    groups.join("-")
+}
+
+fn random(random: &mut Random, _: &mut [usize; 2]) -> String {
+    let length = random.between(1, 60);
+    (0..length).map(|_| char::from(random.allowed())).collect()
+}
+
+/// Names of so many tokens, a letter and a digit by turns, the digits anything but 0.
+pub fn of_tokens(tokens: usize, count: u32) -> Vec<u8> {
+    let mut random = Random::new(tokens as u64);
+    let mut input = Vec::new();
+    for _ in 0..count {
+        let byte = |place| match place % 2 {
+            0 => random.pick(b"acgt"),
+            _ => random.pick(b"123456789"),
+        };
+        input.extend((0..tokens).map(byte));
+        input.push(b'\n');
+    }
+    input
+}

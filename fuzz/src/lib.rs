@@ -1,0 +1,39 @@
+//! One libFuzzer input, decoded into memory and calls, run on the library and on the second
+//! program; answers and all lent memory, guards included, must be the same after every call.
+//!
+//! The first byte of an input picks the target. libFuzzer sees the second program's branches
+//! (the archive isn't instrumented), and those are the same rules. The listing is a program
+//! and no function of the archive; it has no target here.
+
+#![deny(unsafe_code)]
+
+mod block;
+mod harm;
+mod input;
+mod pair;
+mod targets;
+
+use input::Input;
+
+/// libFuzzer's entry. A difference panics, which ends the process and keeps the input.
+///
+/// # Safety
+/// `data` points to `length` bytes, as libFuzzer says; a null pointer comes with length 0.
+#[allow(unsafe_code)]
+#[no_mangle]
+pub unsafe extern "C" fn LLVMFuzzerTestOneInput(data: *const u8, length: usize) -> i32 {
+    if length > 0 {
+        // SAFETY: the caller's promise, and the bytes stay for the call.
+        let bytes = unsafe { std::slice::from_raw_parts(data, length) };
+        run(&mut Input::new(bytes));
+    }
+    0
+}
+
+fn run(input: &mut Input<'_>) {
+    match input.below(3) {
+        0 => targets::whole_block(input),
+        1 => targets::call_sequence(input),
+        _ => targets::writing(input),
+    }
+}

@@ -1,0 +1,60 @@
+//! The same memory twice, and every call on both.
+
+use second::boundary::Linked;
+use second::calls::Second;
+use second::memory::{Call, Lent, Memory};
+use second::refusal::unpack;
+
+pub struct Pair {
+    second: Memory,
+    library: Memory,
+}
+
+impl Pair {
+    pub fn new(memory: Memory) -> Pair {
+        Pair {
+            library: memory.clone(),
+            second: memory,
+        }
+    }
+
+    /// Code and value of the call; a difference ends the process.
+    pub fn call(&mut self, call: &Call) -> (u32, u32) {
+        let expected = unpack(self.second.run(&Second, call));
+        let answered = unpack(self.library.run(&Linked, call));
+        if expected != answered || self.second != self.library {
+            let place = self.second.difference(&self.library);
+            let place = place.unwrap_or_else(|| "the memory is the same".into());
+            panic!(
+                "{call:?}\n  (code, value) of the second program {expected:?}, of the library \
+                 {answered:?}\n  second program against library: {place}\n  memory of the second \
+                 program after the call:\n{}",
+                self.second
+            );
+        }
+        expected
+    }
+
+    pub fn change(&mut self, change: impl Fn(&mut Memory)) {
+        change(&mut self.second);
+        change(&mut self.library);
+    }
+
+    /// One part of the memory, which is the same on both sides.
+    pub fn memory<T>(&mut self, of: fn(&mut Memory) -> &mut Lent<T>) -> &Lent<T> {
+        of(&mut self.second)
+    }
+
+    pub fn both(&self) -> &Memory {
+        &self.second
+    }
+
+    /// The text of a kept name, as far as hostile tables allow to say which it is.
+    pub fn name(&self, number: u32) -> &[u8] {
+        let memory = self.both();
+        let entry = memory.names.get().chunks_exact(5).nth(number as usize);
+        let bounds = entry.map_or((0, 0), |entry| (entry[0] as usize, entry[1] as usize));
+        let text = memory.text.get().get(bounds.0..).unwrap_or(&[]);
+        text.get(..bounds.1).unwrap_or(&[])
+    }
+}
