@@ -1,27 +1,25 @@
 -- The pass that fills: what it leaves is the contents one after another, and it has room at each put.
 -- Each span k is what it has so far, d k, and a gap g k that the puts to come fill exactly.
-use Prim.Native.Nat.{ℕ, zero, suc, _+_, _-_, _*_, _^_, _≤_, _<_}
+use Prim.Native.Nat.{ℕ, zero, suc, _+_, _-_, _^_, _≤_, _<_}
 use mathlib.Core.Path.{_≡_, refl, sym, ap, _∙_, subst}
-use mathlib.Core.Bool.{Bool, true, false}
 use mathlib.Core.List.{List, [], _∷_, _++_, append-assoc, append-nil}
 use native.Mathlib.Omega.{arith}
+use native.Mathlib.Numerals.{add-one}
 use borrow.Author.Tests.{eqb-true, eqb-false}
 use lib.Dec.{eqb}
 use lib.ListN.{length, take, drop, length-append, length-drop}
-use Rattle.base.proofs.Choice.{by-test}
-use native.Mathlib.Numerals.{add-one}
 use lib.Seq.{take-at, take-add, drop-at, length-take-le}
+use Rattle.base.proofs.Choice.{by-test}
 use Rattle.base.proofs.Memory.{length-part}
 use Rattle.base.specs.Choice.{pick}
 use Rattle.base.specs.Memory.{part, written}
 use Rattle.block.specs.Block.{endOf}
-use Rattle.laying.specs.declared.Pass.{Pass}
-use Rattle.laying.specs.declared.Pass.the-variants.{Total, Sizes, Fill}
-use Rattle.laying.specs.Puts.{Put, put, share, contentOf, joined, startIn, tableOf, totalOf, directoryOf, bytesOf}
-use Rattle.laying.specs.Passes.{counts, fills, World, world, moved, stepOf, runOf, Room, Roomy, offsetIn, placesOf, cleared}
+use Rattle.laying.specs.declared.Pass.the-variants.{Sizes, Fill}
+use Rattle.laying.specs.Puts.{Put, share, contentOf, joined, startIn, tableOf, totalOf, directoryOf, bytesOf}
+use Rattle.laying.specs.Passes.{counts, fills, world, stepOf, runOf, Roomy, offsetIn, placesOf, cleared}
 use Rattle.laying.proofs.Joined.{joined-none, joined-same, joined-at, joined-but, joined-last, length-joined, length-joined-suc, length-joined-at}
 use Rattle.laying.proofs.Tables.{length-table, end-table, table-same, offset-joined}
-use Rattle.laying.proofs.Passes.{share-same, share-other, content-more, length-content, content-first, Inside, sizeOf, size-total, run-none, run-one, ends-more, moved-more, ends-all, sizes-run, sizes-roomy}
+use Rattle.laying.proofs.Passes.{share-same, share-other, length-content, content-first, Inside, sizeOf, size-total, run-none, run-one, ends-more, moved-more, ends-all, sizes-run, sizes-roomy}
 
 -- a write in the middle
 written-mid : (p x r s : List ℕ) (at : ℕ) → length p ≡ at → length x ≡ length s → written (p ++ x ++ r) at s ≡ p ++ s ++ r

@@ -1,20 +1,18 @@
 -- What is known of a pass: it goes on where it stopped, and what it leaves when it finds the total and when it counts the sizes.
-use Prim.Native.Nat.{ℕ, zero, suc, _+_, _-_, _*_, _^_, _≤_, _<_}
+use Prim.Native.Nat.{ℕ, _+_, _-_, _^_, _<_}
 use mathlib.Core.Path.{_≡_, refl, sym, ap, _∙_, subst}
-use mathlib.Core.Bool.{Bool, true, false}
+use mathlib.Core.Bool.{true}
 use mathlib.Core.List.{List, [], _∷_, _++_, append-assoc}
 use native.Mathlib.Omega.{arith}
 use borrow.Author.Tests.{eq-eqb, ne-eqb}
-use lib.Dec.{eqb}
 use lib.ListN.{length, length-append}
 use Rattle.base.specs.Choice.{pick}
 use Rattle.base.proofs.Choice.{pick-true, pick-false, never}
-use Rattle.block.specs.Block.{endOf}
 use Rattle.laying.specs.declared.Pass.{Pass}
-use Rattle.laying.specs.declared.Pass.the-variants.{Total, Sizes, Fill}
-use Rattle.laying.specs.Puts.{Put, put, share, contentOf, joined, startIn, tableOf, totalOf}
+use Rattle.laying.specs.declared.Pass.the-variants.{Total, Sizes}
+use Rattle.laying.specs.Puts.{Put, share, contentOf, joined, startIn, tableOf, totalOf}
 use Rattle.laying.specs.Passes.{counts, fills, World, world, moved, stepOf, runOf, Room, Roomy}
-use Rattle.laying.proofs.Joined.{length-joined, length-joined-sum, length-joined-none, joined-at}
+use Rattle.laying.proofs.Joined.{length-joined-sum, length-joined-none, joined-at}
 use Rattle.laying.proofs.Tables.{length-table, end-table, moved-table, table-same}
 
 -- Shares and contents

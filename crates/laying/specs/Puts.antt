@@ -1,6 +1,5 @@
 -- "Spans lie one after another in directory order with no gaps": what was put into each span, and the directory and bytes that it makes.
 use Prim.Native.Nat.{ℕ, zero, suc, _+_}
-use mathlib.Core.Bool.{Bool, true, false}
 use mathlib.Core.List.{List, [], _∷_, _++_}
 use lib.Dec.{eqb}
 use lib.ListN.{length}

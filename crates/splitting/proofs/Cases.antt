@@ -1,13 +1,11 @@
 -- The writing rule on names that the paper gives, computed.
-use Prim.Native.Nat.{ℕ}
 use mathlib.Core.Path.{_≡_, refl}
-use mathlib.Core.List.{List, [], _∷_}
+use mathlib.Core.List.{[], _∷_}
 use lib.ListN.{replicate}
 use Rattle.base.specs.Choice.{pick}
 use Rattle.base.specs.Memory.{part}
 use Rattle.digits.specs.Digits.{isDigit, valueOf, valueFrom}
 use Rattle.splitting.specs.declared.Piece.the-variants.{String, Char, Digits, Digits0}
-use Rattle.splitting.specs.declared.Choice.{Choice}
 use Rattle.splitting.specs.declared.Choice.the-variants.{Itself, Delta, Delta0, Match, End}
 use Rattle.splitting.specs.Split.{runClass, runEnd, runLimit, runAt, cutAt, textPiece, numberPiece, pieceAt}
 use Rattle.splitting.specs.Choices.{equal, riseOf, leanString, leanChar, byRise, leanDigits, byRise0, leanDigits0, lean, choiceAt, choicesFrom, choicesOf}

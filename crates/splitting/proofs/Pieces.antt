@@ -1,6 +1,6 @@
 -- What holds of a token and of a choice by cases: a token lies in its name, and a choice other than a delta, MATCH or END is the token itself.
-use Prim.Native.Nat.{ℕ, zero, suc, _+_, _-_, _≤_, _<_}
-use mathlib.Core.Path.{_≡_, refl, sym, ap, _∙_, subst}
+use Prim.Native.Nat.{ℕ, _+_, _≤_, _<_}
+use mathlib.Core.Path.{_≡_, sym, subst}
 use mathlib.Core.Bool.{Bool, true, false}
 use mathlib.Core.List.{List}
 use native.Mathlib.Omega.{arith}
@@ -10,17 +10,16 @@ use lib.ListN.{length, getD}
 use Rattle.base.specs.Choice.{pick}
 use Rattle.base.specs.Memory.{part}
 use Rattle.base.proofs.Choice.{by-test, pick-true, pick-false}
-use Rattle.digits.specs.Digits.{valueOf}
 use Rattle.tokens.specs.declared.Padded.{Padded}
 use Rattle.splitting.specs.declared.Piece.{Piece}
 use Rattle.splitting.specs.declared.Piece.the-variants.{String, Char, Digits, Digits0}
 use Rattle.splitting.specs.declared.Rise.{Rise}
-use Rattle.splitting.specs.declared.Rise.the-variants as rise
 use Rattle.splitting.specs.declared.Choice.{Choice}
-use Rattle.splitting.specs.declared.Choice.the-variants.{Itself, Delta, Delta0, Match, End}
+use Rattle.splitting.specs.declared.Choice.the-variants.{Itself, Delta, Delta0, Match}
 use Rattle.splitting.specs.Split.{runClass, runAt, cutAt, textPiece, numberPiece, pieceAt}
 use Rattle.splitting.specs.Choices.{Within, ChoiceWithin, equal, riseOf, leanString, leanChar, byRise, leanDigits, byRise0, leanDigits0, lean, choiceAt}
-use Rattle.splitting.proofs.Runs.{run-range, run-number, cut-last, cut-run, cut-range}
+use Rattle.splitting.proofs.Runs.{run-number, cut-last, cut-run, cut-range}
+use Rattle.splitting.specs.declared.Rise.the-variants as rise
 
 -- what holds of both holds of the one picked
 either-way : {A : Type 0} (P : A → Type 0) (b : Bool) (x y : A) → P x → P y → P (pick b x y)

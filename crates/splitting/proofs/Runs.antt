@@ -1,19 +1,18 @@
 -- What is known of runs and cuts: one byte more of a run, how far it goes, and that a token has a byte and stays in its name.
 use Prim.Native.Nat.{ℕ, zero, suc, _+_, _-_, _≤_, _<_}
 use mathlib.Core.Path.{_≡_, refl, sym, ap, _∙_}
-use mathlib.Core.Bool.{Bool, true, false}
+use mathlib.Core.Bool.{true}
 use mathlib.Core.Logic.{⊎-elim}
 use mathlib.Core.List.{List}
 use native.Mathlib.Omega.{arith}
 use borrow.Author.Tests.{eq-eqb, ne-eqb, eqb-true, eqb-false, lt-ltb, le-ltb}
-use lib.Dec.{eqb, ltb}
+use lib.Dec.{eqb}
 use lib.ListN.{length, getD}
-use Rattle.base.specs.Choice.{pick, both}
+use Rattle.base.specs.Choice.{pick}
 use Rattle.base.specs.Memory.{part}
 use Rattle.base.proofs.Choice.{pick-true, pick-false, both-of, by-test}
 use Rattle.base.proofs.Numbers.{lt-or-ge}
 use Rattle.digits.specs.Digits.{isDigit, allDigits}
-use Rattle.base.specs.Every.{every}
 use Rattle.base.proofs.Every.{every-none, every-part}
 use Rattle.base.proofs.Lists.{part-none}
 use Rattle.splitting.specs.Split.{runClass, runEnd, runLimit, runAt, cutAt}

@@ -11,12 +11,12 @@ use Rattle.tokens.specs.declared.Padded.{Padded}
 use Rattle.splitting.specs.declared.Piece.{Piece}
 use Rattle.splitting.specs.declared.Piece.the-variants.{String, Char, Digits, Digits0}
 use Rattle.splitting.specs.declared.Rise.{Rise}
-use Rattle.splitting.specs.declared.Rise.the-variants as rise
 use Rattle.splitting.specs.declared.Choice.{Choice}
 use Rattle.splitting.specs.declared.Choice.the-variants.{Itself, Delta, Delta0, Match, End}
 use Rattle.splitting.specs.declared.Reference.{Reference}
 use Rattle.splitting.specs.declared.Reference.the-variants.{Dup, Diff}
 use Rattle.splitting.specs.Split.{cutAt, pieceAt}
+use Rattle.splitting.specs.declared.Rise.the-variants as rise
 
 -- a token whose bytes, if it is a STRING, lie in the name, and whose width, if it has one, is a byte
 abbrev pub Within : List ℕ → Piece → Type 0

@@ -1,6 +1,5 @@
 -- The writing rule, "Split from the left": the token that begins at a place of a name, and where it ends. Position p is 1 to 127.
 use Prim.Native.Nat.{ℕ, zero, suc, _+_, _-_}
-use mathlib.Core.Bool.{Bool, true, false}
 use mathlib.Core.List.{List}
 use lib.Dec.{ltb, eqb}
 use lib.ListN.{length, getD}

@@ -8,7 +8,7 @@ ghost use Rattle.base.specs.Memory.{part};
 ghost use Rattle.digits.specs.Digits.{allDigits};
 ghost use Rattle.classes.specs.Classes.{classTable};
 ghost use Rattle.splitting.specs.Split.{runClass, runEnd, runLimit, runAt, cutAt, textPiece, numberPiece, pieceAt};
-ghost use Rattle.splitting.specs.Choices.{Within, equal, riseOf, leanString, leanChar, byRise, leanDigits, byRise0, leanDigits0, lean, choiceAt, referenceOf, leansOn};
+ghost use Rattle.splitting.specs.Choices.{Within, equal, riseOf, leanString, leanChar, byRise, leanDigits, byRise0, leanDigits0, lean, choiceAt, anew, referenceOf, leansOn};
 use block::Block;
 use spans::Distance;
 use tokens::Padded;
@@ -298,11 +298,18 @@ pub fn choice_at(
     lean(name, t, before, u)
 }
 
+// Name n refers to no earlier one.
+fn is_anew(n: u32) -> bool
+    ensures { λ r. ⌜ r ≡ anew n ⌝ }
+{
+    n == 0
+}
+
 // What name n is after the name just before it.
 pub fn reference_of(n: u32, before: &[u8], name: &[u8]) -> Reference
     ensures { λ r. ⌜ r ≡ referenceOf n (now (before .entry)) (now (name .entry)) ⌝ }
 {
-    if n == 0 {
+    if is_anew(n) {
         return Reference::Diff(Distance(0));
     }
     if same(before, name) {
@@ -315,7 +322,7 @@ pub fn reference_of(n: u32, before: &[u8], name: &[u8]) -> Reference
 pub fn leans_on(n: u32, before: &[u8]) -> &[u8]
     ensures { λ r. ⌜ now r ≡ leansOn n (now (before .entry)) ⌝ }
 {
-    if n == 0 {
+    if is_anew(n) {
         return &before[..0];
     }
     before

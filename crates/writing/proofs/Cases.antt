@@ -2,7 +2,7 @@
 use Prim.Native.Nat.{ℕ}
 use mathlib.Core.Path.{_≡_, refl}
 use mathlib.Core.List.{List, [], _∷_}
-use lib.ListN.{length, replicate}
+use lib.ListN.{replicate}
 use Rattle.base.specs.Choice.{pick}
 use Rattle.base.specs.Memory.{part, written}
 use Rattle.digits.specs.Digits.{isDigit, valueOf, valueFrom}
@@ -13,11 +13,11 @@ use Rattle.block.specs.Block.{spanOf}
 use Rattle.splitting.specs.Split.{runClass, runEnd, runLimit, runAt, cutAt, textPiece, numberPiece, pieceAt}
 use Rattle.splitting.specs.Choices.{equal, riseOf, leanString, leanChar, byRise, leanDigits, byRise0, leanDigits0, lean, choiceAt, choicesFrom, choicesOf, anew, referenceOf, leansOn}
 use Rattle.laying.specs.Puts.{share, contentOf, joined, startIn, totalOf}
-use Rattle.writing.specs.declared.WriteAnswer.the-variants.{Written, Refused}
 use Rattle.block.specs.declared.Refusal.the-variants.{Plain, At}
+use Rattle.writing.specs.declared.WriteAnswer.the-variants.{Written, Refused}
 use Rattle.writing.specs.Names.{namesAfter, namesOf, ended, goodName, judgedFrom}
 use Rattle.writing.specs.NamePuts.{typeNumber, pieceType, choiceType, piecePuts, valuePuts, choicePuts, tokenPuts, headPuts, referencePuts, namePuts, putsFrom, putsOf}
-use Rattle.writing.specs.Writes.{Writing, countable, laidOf, judgedOf, writeOf}
+use Rattle.writing.specs.Writes.{countable, laidOf, judgedOf, writeOf}
 
 -- `run7:0098`, `run7:0099`, `run7:0100`, `run7:0100`
 abbrev run : List ℕ

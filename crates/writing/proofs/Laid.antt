@@ -1,12 +1,11 @@
 -- From the passes to the answer: what each call of writing leaves is what the definition says.
-use Prim.Native.Nat.{ℕ, zero, suc, _+_, _-_, _*_, _^_, _≤_, _<_}
+use Prim.Native.Nat.{ℕ, _+_, _^_, _≤_, _<_}
 use mathlib.Core.Path.{_≡_, refl, sym, ap, _∙_, subst}
-use mathlib.Core.Bool.{Bool, true, false}
-use mathlib.Core.List.{List, [], _∷_, _++_}
+use mathlib.Core.Bool.{true, false}
+use mathlib.Core.List.{List, []}
 use native.Mathlib.Omega.{arith}
 use borrow.Author.Tests.{eq-eqb, ne-eqb, le-leb, lt-leb}
 use lib.ListN.{length}
-use Rattle.base.specs.Choice.{pick, both}
 use Rattle.base.proofs.Choice.{took, left, both-of, both-left, both-right}
 use Rattle.block.specs.declared.Refusal.the-variants.{Plain, At}
 use Rattle.laying.specs.declared.Pass.the-variants.{Total, Sizes, Fill}
@@ -16,10 +15,9 @@ use Rattle.laying.proofs.Passes.{Inside, sizeOf, size-total, total-run, total-r
 use Rattle.laying.proofs.Filling.{fill-room, fill-all, sizesIn, sizes-room, sizes-all, length-sizes, places-start, places-total}
 use Rattle.writing.specs.declared.Judged.{Judged}
 use Rattle.writing.specs.declared.Judged.the-variants.{Fine, Bad}
-use Rattle.writing.specs.declared.WriteAnswer.{WriteAnswer}
 use Rattle.writing.specs.declared.WriteAnswer.the-variants.{Written, Refused}
 use Rattle.writing.specs.Names.{namesOf, ended, judgedFrom}
-use Rattle.writing.specs.NamePuts.{putsOf, putsFrom}
+use Rattle.writing.specs.NamePuts.{putsOf}
 use Rattle.writing.specs.Writes.{Writing, writing, countable, Ready, laidOf, judgedOf, writeOf}
 use Rattle.writing.proofs.Totals.{puts-inside, total-below}
 

@@ -4,3 +4,4 @@ pub mod PutLaws
 pub mod Walks
 pub mod Totals
 pub mod Laid
+pub mod Types

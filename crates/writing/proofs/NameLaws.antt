@@ -1,7 +1,7 @@
 -- What is known of the names of an input: byte by byte, and name by name.
-use Prim.Native.Nat.{ℕ, zero, suc, _+_, _-_, _≤_, _<_}
+use Prim.Native.Nat.{ℕ, suc, _+_, _-_, _≤_, _<_}
 use mathlib.Core.Path.{_≡_, refl, sym, ap, _∙_}
-use mathlib.Core.Bool.{Bool, true, false}
+use mathlib.Core.Bool.{true, false}
 use mathlib.Core.Logic.{⊎-elim}
 use mathlib.Core.List.{List, [], _∷_, _++_}
 use native.Mathlib.Omega.{arith}
@@ -16,9 +16,8 @@ use Rattle.base.proofs.Choice.{pick-true, pick-false, both-true, both-left, bot
 use Rattle.base.proofs.Numbers.{lt-or-ge}
 use Rattle.base.proofs.Memory.{length-part}
 use Rattle.classes.specs.Classes.{allAllowed}
-use Rattle.writing.specs.declared.Judged.{Judged}
 use Rattle.writing.specs.declared.Judged.the-variants.{Fine, Bad}
-use Rattle.writing.specs.Names.{namesAfter, namesOf, NameAt, ended, goodName, judgedFrom}
+use Rattle.writing.specs.Names.{namesAfter, ended, goodName, judgedFrom}
 
 -- a part with one byte more
 pub part-last : (s : List ℕ) (from i : ℕ) → from ≤ i → i < length s → part s from (i + 1) ≡ part s from i ++ getD s i 0 ∷ []

@@ -1,7 +1,6 @@
 -- What the puts of a token, a choice and a name are, in the forms in which their passes want them.
 use Prim.Native.Nat.{ℕ, zero, suc, _+_, _-_, _*_, _≤_, _<_}
-use mathlib.Core.Path.{_≡_, refl, sym, ap, _∙_, subst}
-use mathlib.Core.Bool.{Bool, true, false}
+use mathlib.Core.Path.{_≡_, ap, _∙_, subst}
 use mathlib.Core.List.{List, [], _∷_, _++_, append-nil}
 use native.Mathlib.Omega.{arith}
 use borrow.Author.Tests.{lt-ltb, le-ltb}
@@ -18,11 +17,11 @@ use Rattle.splitting.specs.declared.Choice.the-variants.{Itself, Delta, Delta0,
 use Rattle.splitting.specs.Split.{cutAt}
 use Rattle.spans.specs.declared.Distance.{Distance}
 use Rattle.splitting.specs.declared.Reference.the-variants.{Dup, Diff}
-use Rattle.splitting.specs.Choices.{Within, ChoiceWithin, choiceAt, choicesFrom, choicesOf, referenceOf, leansOn}
+use Rattle.splitting.specs.Choices.{choiceAt, choicesFrom, choicesOf, referenceOf, leansOn}
 use Rattle.laying.specs.declared.Pass.{Pass}
-use Rattle.laying.specs.Puts.{Put, put}
+use Rattle.laying.specs.Puts.{put}
 use Rattle.laying.specs.Passes.{World, stepOf, runOf, Room, Roomy}
-use Rattle.laying.proofs.Writes.{length-text, length-four}
+use Rattle.laying.proofs.Writes.{length-text}
 use Rattle.writing.specs.NamePuts.{typeNumber, choiceType, piecePuts, valuePuts, choicePuts, tokenPuts, headPuts, referencePuts, namePuts, putsFrom}
 
 -- A token's value

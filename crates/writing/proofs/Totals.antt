@@ -1,14 +1,12 @@
 -- How much the names put: each put names a span, and the total has 32 bits.
 use Prim.Native.Nat.{ℕ, zero, suc, _+_, _-_, _*_, _^_, _≤_, _<_}
 use mathlib.Core.Path.{_≡_, refl, sym, ap, _∙_, subst}
-use mathlib.Core.Bool.{Bool, true, false}
+use mathlib.Core.Bool.{true}
 use mathlib.Core.Logic.{⊎-elim}
 use mathlib.Core.List.{List, [], _∷_, _++_, append-nil}
 use native.Mathlib.Omega.{arith}
-use borrow.Author.Tests.{lt-ltb, le-ltb}
+use borrow.Author.Tests.{lt-ltb}
 use lib.ListN.{length}
-use Rattle.base.specs.Choice.{pick}
-use Rattle.base.specs.Memory.{part}
 use Rattle.base.proofs.Choice.{pick-true, pick-false, by-test}
 use Rattle.base.proofs.Numbers.{lt-or-ge}
 use Rattle.spans.specs.Spans.{fourBytes}
@@ -23,13 +21,12 @@ use Rattle.splitting.specs.Split.{cutAt}
 use Rattle.splitting.specs.Choices.{choiceAt, choicesFrom, choicesOf, referenceOf, leansOn}
 use Rattle.splitting.proofs.Runs.{cut-range}
 use Rattle.splitting.proofs.Pieces.{piece-cases, choice-cases}
-use Rattle.laying.specs.Puts.{Put, put, totalOf}
+use Rattle.laying.specs.Puts.{totalOf}
 use Rattle.laying.proofs.Passes.{Inside, inside-append, sizeOf, size-append, size-total}
-use Rattle.laying.proofs.Writes.{length-text, length-four}
-use Rattle.writing.specs.declared.Judged.{Judged}
+use Rattle.laying.proofs.Writes.{length-text}
 use Rattle.writing.specs.declared.Judged.the-variants.{Fine, Bad}
 use Rattle.writing.specs.Names.{goodName, judgedFrom}
-use Rattle.writing.specs.NamePuts.{typeNumber, choiceType, piecePuts, valuePuts, choicePuts, tokenPuts, headPuts, referencePuts, namePuts, putsFrom, putsOf}
+use Rattle.writing.specs.NamePuts.{piecePuts, valuePuts, choicePuts, tokenPuts, headPuts, referencePuts, namePuts, putsFrom, putsOf}
 use Rattle.writing.proofs.NameLaws.{good-length}
 use Rattle.writing.proofs.PutLaws.{tokens-end}
 

@@ -5,7 +5,6 @@ use Rattle.base.specs.Memory.{part}
 use Rattle.spans.specs.Spans.{fourBytes}
 use Rattle.block.specs.Block.{spanOf}
 use Rattle.tokens.specs.declared.TokenType.{TokenType}
-use Rattle.tokens.specs.declared.TokenType.the-variants as type
 use Rattle.splitting.specs.declared.Piece.{Piece}
 use Rattle.splitting.specs.declared.Piece.the-variants.{String, Char, Digits, Digits0}
 use Rattle.splitting.specs.declared.Choice.{Choice}
@@ -14,6 +13,7 @@ use Rattle.splitting.specs.declared.Reference.{Reference}
 use Rattle.splitting.specs.declared.Reference.the-variants.{Dup, Diff}
 use Rattle.splitting.specs.Choices.{choicesOf, referenceOf, leansOn}
 use Rattle.laying.specs.Puts.{Put, put}
+use Rattle.tokens.specs.declared.TokenType.the-variants as type
 
 -- the numbers of the types in the stream: the table's, the other way round
 unfoldable pub typeNumber : TokenType → ℕ

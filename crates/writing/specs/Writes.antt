@@ -1,7 +1,7 @@
 -- "Writing: wrong directory length 1, then 12, the first bad name's 8, then 9; it fills the directory and the bytes up to its total and no more."
 use Prim.Native.Nat.{ℕ, _≤_}
 use mathlib.Core.Path.{_≡_}
-use mathlib.Core.Bool.{Bool, true, false}
+use mathlib.Core.Bool.{Bool, true}
 use mathlib.Core.List.{List}
 use lib.Dec.{leb, eqb}
 use lib.ListN.{length}

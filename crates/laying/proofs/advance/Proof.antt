@@ -1,8 +1,8 @@
-use mathlib.Core.Path.{_≡_, refl, sym, ap, _∙_}
-use Rattle.base.proofs.Choice.{took, left}
-use Rattle.laying.specs.Passes.{moved}
-use Rattle.block.specs.Block.{endOf}
+use mathlib.Core.Path.{refl, sym, _∙_}
 use borrow.Author.Needs.{needs}
+use Rattle.base.proofs.Choice.{took, left}
+use Rattle.block.specs.Block.{endOf}
+use Rattle.laying.specs.Passes.{moved}
 use Rattle.laying.proofs.advance.Statement.{statement}
 use Rattle.laying.proofs.advance.Tie as tie
 

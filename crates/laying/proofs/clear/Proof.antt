@@ -1,14 +1,13 @@
-use Rattle.laying.proofs.Tables.{cleared-zeros}
-use native.Mathlib.Omega.{arith}
-use mathlib.Core.List.{List, [], _∷_, _++_}
-use lib.ListN.{length, set, getD, drop, replicate, length-set}
-use Prim.Native.Nat.{ℕ, suc, _+_, _-_, _*_, _≤_, _<_}
-use denote.Ref.{now}
+use Prim.Native.Nat.{ℕ, _+_, _-_, _≤_}
+use mathlib.Core.List.{List, [], _++_, append-nil}
 use mathlib.Core.Path.{_≡_, refl, sym, ap, _∙_}
-use mathlib.Core.List.{append-nil}
+use native.Mathlib.Omega.{arith}
+use lib.ListN.{length, set, drop, replicate, length-set}
+use denote.Ref.{now}
 use lib.Seq.{drop-length}
 use borrow.Author.Fill.{fill-none, fill-more}
 use borrow.Author.Needs.{needs}
+use Rattle.laying.proofs.Tables.{cleared-zeros}
 use Rattle.laying.proofs.clear.Statement.{statement}
 use Rattle.laying.proofs.clear.Tie as tie
 

@@ -1,5 +1,5 @@
-use Rattle.laying.specs.Passes.{counts}
 use borrow.Author.Needs.{needs}
+use Rattle.laying.specs.Passes.{counts}
 use Rattle.laying.proofs.counts_in.Statement.{statement}
 use Rattle.laying.proofs.counts_in.Tie as tie
 

@@ -1,5 +1,5 @@
-use Rattle.laying.specs.Passes.{fills}
 use borrow.Author.Needs.{needs}
+use Rattle.laying.specs.Passes.{fills}
 use Rattle.laying.proofs.fills_in.Statement.{statement}
 use Rattle.laying.proofs.fills_in.Tie as tie
 

@@ -1,13 +1,13 @@
-use Rattle.laying.proofs.Tables.{laid, laid-none, laid-read, laid-more, laid-all, offset-more, offset-grows}
-use Rattle.laying.specs.Passes.{offsetIn}
-use Rattle.block.specs.Block.{endOf}
-use native.Mathlib.Omega.{arith}
-use mathlib.Core.List.{List, [], _∷_, _++_}
-use lib.ListN.{length, set, getD, drop, replicate, length-set}
-use Prim.Native.Nat.{ℕ, suc, _+_, _-_, _*_, _≤_, _<_}
-use denote.Ref.{now}
+use Prim.Native.Nat.{ℕ, _+_, _-_, _*_, _≤_}
+use mathlib.Core.List.{List}
 use mathlib.Core.Path.{_≡_, refl, sym, ap, _∙_}
+use native.Mathlib.Omega.{arith}
+use lib.ListN.{length, set, getD, length-set}
+use denote.Ref.{now}
 use borrow.Author.Needs.{needs}
+use Rattle.block.specs.Block.{endOf}
+use Rattle.laying.specs.Passes.{offsetIn}
+use Rattle.laying.proofs.Tables.{laid, laid-none, laid-read, laid-more, laid-all, offset-more, offset-grows}
 use Rattle.laying.proofs.lay_out.Statement.{statement}
 use Rattle.laying.proofs.lay_out.Tie as tie
 
@@ -19,7 +19,7 @@ abbrev μ-loop : tie.MeasureT-loop
 
 loop-holds : tie.Need-loop-holds Inv-loop μ-loop
 unfolding offsetIn
-loop-holds c = (search needs, (refl, (refl, sym (laid-none _))))
+loop-holds c = (search needs, (refl, (search needs, sym (laid-none _))))
 
 mul-size : tie.Need-mul-size Inv-loop μ-loop
 mul-size c = search needs

@@ -1,9 +1,9 @@
-use Rattle.laying.specs.Passes.{stepOf}
-use Rattle.spans.specs.Spans.{fourBytes}
-use Rattle.block.specs.Block.{endOf}
-use Prim.Native.Nat.{ℕ, suc, _+_, _-_, _*_, _≤_, _<_}
+use Prim.Native.Nat.{_+_, _*_}
 use native.Mathlib.Omega.{arith}
 use borrow.Author.Needs.{needs}
+use Rattle.spans.specs.Spans.{fourBytes}
+use Rattle.block.specs.Block.{endOf}
+use Rattle.laying.specs.Passes.{stepOf}
 use Rattle.laying.proofs.put_byte.Statement.{statement}
 use Rattle.laying.proofs.put_byte.Tie as tie
 

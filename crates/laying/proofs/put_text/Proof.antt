@@ -1,10 +1,10 @@
-use denote.Ref.{now}
-use Rattle.laying.proofs.Writes.{length-text}
-use Rattle.laying.specs.Passes.{stepOf}
-use Rattle.block.specs.Block.{endOf}
-use Prim.Native.Nat.{ℕ, suc, _+_, _-_, _*_, _≤_, _<_}
+use Prim.Native.Nat.{_+_, _*_}
 use native.Mathlib.Omega.{arith}
+use denote.Ref.{now}
 use borrow.Author.Needs.{needs}
+use Rattle.block.specs.Block.{endOf}
+use Rattle.laying.specs.Passes.{stepOf}
+use Rattle.laying.proofs.Writes.{length-text}
 use Rattle.laying.proofs.put_text.Statement.{statement}
 use Rattle.laying.proofs.put_text.Tie as tie
 

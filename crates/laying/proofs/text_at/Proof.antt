@@ -1,10 +1,10 @@
-use Rattle.laying.proofs.Writes.{text-written}
-use Rattle.base.specs.Memory.{written}
-use mathlib.Core.List.{List, [], _∷_, _++_}
-use Prim.Native.Nat.{ℕ, suc, _+_, _-_, _*_, _≤_, _<_}
+use Prim.Native.Nat.{ℕ, _+_, _-_}
+use mathlib.Core.List.{List, [], _∷_}
+use mathlib.Core.Path.{ap, _∙_}
 use denote.Ref.{now}
-use mathlib.Core.Path.{_≡_, refl, sym, ap, _∙_}
 use borrow.Author.Needs.{needs}
+use Rattle.base.specs.Memory.{written}
+use Rattle.laying.proofs.Writes.{text-written}
 use Rattle.laying.proofs.text_at.Statement.{statement}
 use Rattle.laying.proofs.text_at.Tie as tie
 

@@ -1,6 +1,6 @@
-use mathlib.Core.Path.{_≡_, refl, sym, ap, _∙_}
-use Rattle.base.proofs.Choice.{took, left}
+use mathlib.Core.Path.{refl, sym, _∙_}
 use borrow.Author.Needs.{needs}
+use Rattle.base.proofs.Choice.{took, left}
 use Rattle.laying.proofs.write_four.Statement.{statement}
 use Rattle.laying.proofs.write_four.Tie as tie
 

@@ -1,5 +1,5 @@
-use Rattle.splitting.specs.Choices.{byRise}
 use borrow.Author.Needs.{needs}
+use Rattle.splitting.specs.Choices.{byRise}
 use Rattle.splitting.proofs.by_rise.Statement.{statement}
 use Rattle.splitting.proofs.by_rise.Tie as tie
 

@@ -1,5 +1,5 @@
-use Rattle.splitting.specs.Choices.{byRise0}
 use borrow.Author.Needs.{needs}
+use Rattle.splitting.specs.Choices.{byRise0}
 use Rattle.splitting.proofs.by_rise0.Statement.{statement}
 use Rattle.splitting.proofs.by_rise0.Tie as tie
 

@@ -1,12 +1,11 @@
+use mathlib.Core.Path.{ap}
 use denote.Ref.{now}
-use native.Mathlib.Omega.{arith}
-use mathlib.Core.Path.{_≡_, refl, sym, ap, _∙_}
-use borrow.Author.Tests.{eq-eqb, ne-eqb, lt-ltb, le-ltb}
-use Rattle.base.proofs.Choice.{took, left}
-use Rattle.splitting.proofs.Pieces.{piece-within}
-use Rattle.splitting.specs.declared.Choice.the-variants.{Itself}
-use Rattle.splitting.specs.Choices.{choiceAt, Within}
+use borrow.Author.Tests.{lt-ltb, le-ltb}
 use borrow.Author.Needs.{needs}
+use Rattle.base.proofs.Choice.{took, left}
+use Rattle.splitting.specs.declared.Choice.the-variants.{Itself}
+use Rattle.splitting.specs.Choices.{choiceAt}
+use Rattle.splitting.proofs.Pieces.{piece-within}
 use Rattle.splitting.proofs.choice_at.Statement.{statement}
 use Rattle.splitting.proofs.choice_at.Tie as tie
 

@@ -1,6 +1,6 @@
-use mathlib.Core.Path.{_≡_, refl, sym, ap, _∙_}
-use Rattle.splitting.proofs.Runs.{cut-out, cut-last, cut-run}
+use mathlib.Core.Path.{sym, _∙_}
 use borrow.Author.Needs.{needs}
+use Rattle.splitting.proofs.Runs.{cut-out, cut-last, cut-run}
 use Rattle.splitting.proofs.cut.Statement.{statement}
 use Rattle.splitting.proofs.cut.Tie as tie
 

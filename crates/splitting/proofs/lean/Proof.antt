@@ -1,6 +1,5 @@
-use mathlib.Core.Path.{_≡_, refl, sym, ap, _∙_}
-use Rattle.splitting.specs.Choices.{lean}
 use borrow.Author.Needs.{needs}
+use Rattle.splitting.specs.Choices.{lean}
 use Rattle.splitting.proofs.lean.Statement.{statement}
 use Rattle.splitting.proofs.lean.Tie as tie
 

@@ -1,8 +1,8 @@
-use mathlib.Core.Path.{_≡_, refl, sym, ap, _∙_}
-use borrow.Author.Tests.{eq-eqb, ne-eqb, lt-ltb, le-ltb}
+use mathlib.Core.Path.{refl}
+use borrow.Author.Tests.{eq-eqb, ne-eqb}
+use borrow.Author.Needs.{needs}
 use Rattle.base.proofs.Choice.{took, left}
 use Rattle.splitting.specs.Choices.{leanChar}
-use borrow.Author.Needs.{needs}
 use Rattle.splitting.proofs.lean_char.Statement.{statement}
 use Rattle.splitting.proofs.lean_char.Tie as tie
 

@@ -1,9 +1,6 @@
-use Rattle.splitting.specs.Choices.{byRise}
-use mathlib.Core.Path.{_≡_, refl, sym, ap, _∙_}
-use borrow.Author.Tests.{eq-eqb, ne-eqb, lt-ltb, le-ltb}
-use Rattle.base.proofs.Choice.{took, left}
-use Rattle.splitting.specs.Choices.{leanDigits}
+use mathlib.Core.Path.{ap, _∙_}
 use borrow.Author.Needs.{needs}
+use Rattle.splitting.specs.Choices.{byRise, leanDigits}
 use Rattle.splitting.proofs.lean_digits.Statement.{statement}
 use Rattle.splitting.proofs.lean_digits.Tie as tie
 

@@ -1,9 +1,8 @@
-use Rattle.splitting.specs.Choices.{byRise0}
-use mathlib.Core.Path.{_≡_, refl, sym, ap, _∙_}
-use borrow.Author.Tests.{eq-eqb, ne-eqb, lt-ltb, le-ltb}
-use Rattle.base.proofs.Choice.{took, left}
-use Rattle.splitting.specs.Choices.{leanDigits0}
+use mathlib.Core.Path.{refl, ap, _∙_}
+use borrow.Author.Tests.{eq-eqb, ne-eqb}
 use borrow.Author.Needs.{needs}
+use Rattle.base.proofs.Choice.{took, left}
+use Rattle.splitting.specs.Choices.{byRise0, leanDigits0}
 use Rattle.splitting.proofs.lean_digits0.Statement.{statement}
 use Rattle.splitting.proofs.lean_digits0.Tie as tie
 

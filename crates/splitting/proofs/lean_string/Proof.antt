@@ -1,11 +1,9 @@
-use Rattle.base.specs.Memory.{part}
-use denote.Ref.{now}
+use mathlib.Core.Path.{refl, sym, _∙_}
 use native.Mathlib.Omega.{arith}
-use mathlib.Core.Path.{_≡_, refl, sym, ap, _∙_}
-use borrow.Author.Tests.{eq-eqb, ne-eqb, lt-ltb, le-ltb}
+use borrow.Author.Needs.{needs}
+use Rattle.base.specs.Memory.{part}
 use Rattle.base.proofs.Choice.{took, left}
 use Rattle.splitting.specs.Choices.{leanString}
-use borrow.Author.Needs.{needs}
 use Rattle.splitting.proofs.lean_string.Statement.{statement}
 use Rattle.splitting.proofs.lean_string.Tie as tie
 

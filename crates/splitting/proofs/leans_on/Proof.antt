@@ -1,21 +1,23 @@
-use mathlib.Core.Path.{refl}
-use borrow.Author.Tests.{eq-eqb, ne-eqb}
-use Rattle.base.proofs.Choice.{took, left}
-use Rattle.splitting.specs.Choices.{leansOn, anew}
+use mathlib.Core.Path.{refl, sym, _∙_}
 use borrow.Author.Needs.{needs}
+use Rattle.base.proofs.Choice.{took, left}
+use Rattle.splitting.specs.Choices.{leansOn}
 use Rattle.splitting.proofs.leans_on.Statement.{statement}
 use Rattle.splitting.proofs.leans_on.Tie as tie
+
+is-anew-requires : tie.Need-is-anew-requires
+is-anew-requires c κs = search needs
 
 slice-aggregate-result : tie.Need-slice-aggregate-result
 slice-aggregate-result c = search needs
 
 returns : tie.Need-returns
-unfolding leansOn anew
-returns c = took _ _ (eq-eqb _ _ (c .before .if1 .taken)) refl
+unfolding leansOn
+returns c = took _ _ (sym (c .before .before .is-anew .ensures) ∙ c .before .if1 .taken) refl
 
 returns-2 : tie.Need-returns-2
-unfolding leansOn anew
-returns-2 c = left _ _ (ne-eqb _ _ (c .if1 .left)) refl
+unfolding leansOn
+returns-2 c = left _ _ (sym (c .before .is-anew .ensures) ∙ c .if1 .left) refl
 
 pub leans-on-spec : {M : Type 1} → statement M
-leans-on-spec = tie.close (tie.spec slice-aggregate-result returns returns-2)
+leans-on-spec = tie.close (tie.spec is-anew-requires slice-aggregate-result returns returns-2)

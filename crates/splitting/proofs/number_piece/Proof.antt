@@ -1,10 +1,9 @@
 use mathlib.Core.Path.{ap}
-use Rattle.splitting.specs.declared.Piece.the-variants.{Digits, Digits0}
-use mathlib.Core.Path.{_≡_, refl, sym, _∙_}
 use borrow.Author.Tests.{eq-eqb, ne-eqb}
-use Rattle.base.proofs.Choice.{took, left}
-use Rattle.splitting.specs.Split.{numberPiece}
 use borrow.Author.Needs.{needs}
+use Rattle.base.proofs.Choice.{took, left}
+use Rattle.splitting.specs.declared.Piece.the-variants.{Digits}
+use Rattle.splitting.specs.Split.{numberPiece}
 use Rattle.splitting.proofs.number_piece.Statement.{statement}
 use Rattle.splitting.proofs.number_piece.Tie as tie
 

@@ -1,11 +1,11 @@
-use denote.Ref.{now}
+use mathlib.Core.Path.{sym, ap, _∙_}
 use native.Mathlib.Omega.{arith}
-use mathlib.Core.Path.{_≡_, refl, sym, ap, _∙_}
-use borrow.Author.Tests.{eq-eqb, ne-eqb, lt-ltb, le-ltb}
-use Rattle.base.proofs.Choice.{took, left}
-use Rattle.splitting.proofs.Runs.{run-range, run-number}
-use Rattle.splitting.specs.Split.{pieceAt, textPiece, numberPiece}
+use denote.Ref.{now}
+use borrow.Author.Tests.{eq-eqb, ne-eqb}
 use borrow.Author.Needs.{needs}
+use Rattle.base.proofs.Choice.{took, left}
+use Rattle.splitting.specs.Split.{pieceAt, textPiece, numberPiece}
+use Rattle.splitting.proofs.Runs.{run-range, run-number}
 use Rattle.splitting.proofs.piece_at.Statement.{statement}
 use Rattle.splitting.proofs.piece_at.Tie as tie
 

@@ -1,8 +1,8 @@
-use mathlib.Core.Path.{_≡_, refl, sym, ap, _∙_}
+use mathlib.Core.Path.{refl}
 use borrow.Author.Tests.{eq-eqb, ne-eqb, lt-ltb, le-ltb}
+use borrow.Author.Needs.{needs}
 use Rattle.base.proofs.Choice.{took, left}
 use Rattle.splitting.specs.Choices.{riseOf}
-use borrow.Author.Needs.{needs}
 use Rattle.splitting.proofs.rise_of.Statement.{statement}
 use Rattle.splitting.proofs.rise_of.Tie as tie
 

@@ -1,12 +1,8 @@
-use lib.ListN.{length, drop, getD}
-use Prim.Native.Nat.{ℕ, _+_, _-_, _≤_}
-use Rattle.splitting.specs.Split.{runEnd, runClass}
-use denote.Ref.{now}
-use mathlib.Core.Path.{_≡_, refl, sym, ap, _∙_}
 use native.Mathlib.Omega.{arith}
-use Rattle.splitting.proofs.Runs.{limit-range}
-use Rattle.splitting.specs.Split.{runAt}
+use denote.Ref.{now}
 use borrow.Author.Needs.{needs}
+use Rattle.splitting.specs.Split.{runAt}
+use Rattle.splitting.proofs.Runs.{limit-range}
 use Rattle.splitting.proofs.run_at.Statement.{statement}
 use Rattle.splitting.proofs.run_at.Tie as tie
 

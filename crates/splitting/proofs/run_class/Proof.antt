@@ -1,8 +1,8 @@
-use mathlib.Core.Path.{_≡_, refl, sym, _∙_}
+use mathlib.Core.Path.{refl, sym, _∙_}
+use borrow.Author.Needs.{needs}
 use Rattle.base.proofs.Choice.{took, left}
 use Rattle.classes.proofs.Laws.{digit-class, other-class}
 use Rattle.splitting.specs.Split.{runClass}
-use borrow.Author.Needs.{needs}
 use Rattle.splitting.proofs.run_class.Statement.{statement}
 use Rattle.splitting.proofs.run_class.Tie as tie
 

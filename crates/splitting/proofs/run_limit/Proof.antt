@@ -1,8 +1,8 @@
+use mathlib.Core.Path.{sym, _∙_}
 use native.Mathlib.Omega.{arith}
-use mathlib.Core.Path.{_≡_, refl, sym, _∙_}
 use denote.Ref.{now}
-use Rattle.splitting.proofs.Runs.{limit-nine, limit-short, limit-other}
 use borrow.Author.Needs.{needs}
+use Rattle.splitting.proofs.Runs.{limit-nine, limit-short, limit-other}
 use Rattle.splitting.proofs.run_limit.Statement.{statement}
 use Rattle.splitting.proofs.run_limit.Tie as tie
 

@@ -1,11 +1,11 @@
-use lib.ListN.{length, drop, getD}
-use Prim.Native.Nat.{ℕ, _+_, _-_, _≤_}
+use Prim.Native.Nat.{_-_, _≤_}
+use mathlib.Core.Path.{_≡_, refl, sym, _∙_}
+use native.Mathlib.Omega.{arith}
+use lib.ListN.{length, drop}
 use borrow.Author.Needs.{needs}
 use denote.Ref.{now}
-use mathlib.Core.Path.{_≡_, refl, sym, ap, _∙_}
-use native.Mathlib.Omega.{arith}
-use Rattle.splitting.proofs.Equal.{other-length, equal-here, equal-next, equal-out}
 use Rattle.splitting.specs.Choices.{equal}
+use Rattle.splitting.proofs.Equal.{other-length, equal-here, equal-next, equal-out}
 use Rattle.splitting.proofs.same.Statement.{statement}
 use Rattle.splitting.proofs.same.Tie as tie
 

@@ -1,8 +1,8 @@
-use mathlib.Core.Path.{_≡_, refl, sym, _∙_}
+use mathlib.Core.Path.{refl}
 use borrow.Author.Tests.{eq-eqb, ne-eqb}
+use borrow.Author.Needs.{needs}
 use Rattle.base.proofs.Choice.{took, left}
 use Rattle.splitting.specs.Split.{textPiece}
-use borrow.Author.Needs.{needs}
 use Rattle.splitting.proofs.text_piece.Statement.{statement}
 use Rattle.splitting.proofs.text_piece.Tie as tie
 

@@ -1,7 +1,6 @@
-use Rattle.writing.proofs.Laid.{first-room, places-room, last-room, filled}
 use denote.Ref.{now}
-use mathlib.Core.Path.{_≡_, refl, sym, ap, _∙_, subst}
 use borrow.Author.Needs.{needs}
+use Rattle.writing.proofs.Laid.{first-room, places-room, last-room, filled}
 use Rattle.writing.proofs.fill.Statement.{statement}
 use Rattle.writing.proofs.fill.Tie as tie
 

@@ -1,7 +1,6 @@
-use Rattle.writing.proofs.Laid.{total-room, no-room, room, still-ready, done}
 use denote.Ref.{now}
-use mathlib.Core.Path.{_≡_, refl, sym, ap, _∙_, subst}
 use borrow.Author.Needs.{needs}
+use Rattle.writing.proofs.Laid.{total-room, no-room, room, still-ready, done}
 use Rattle.writing.proofs.lay.Statement.{statement}
 use Rattle.writing.proofs.lay.Tie as tie
 

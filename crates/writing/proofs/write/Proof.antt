@@ -1,9 +1,9 @@
-use Rattle.writing.proofs.Laid.{countable-of, unended, too-many, refused-1, refused-12, refused-8, judged, accepted}
-use borrow.Author.Tests.{not-true, not-false}
 use Prim.Native.Nat.{ℕ, _≤_, _<_}
+use mathlib.Core.Path.{sym, _∙_, subst}
+use borrow.Author.Tests.{not-true, not-false}
 use denote.Ref.{now}
-use mathlib.Core.Path.{_≡_, refl, sym, ap, _∙_, subst}
 use borrow.Author.Needs.{needs}
+use Rattle.writing.proofs.Laid.{countable-of, unended, too-many, refused-1, refused-12, refused-8, judged, accepted}
 use Rattle.writing.proofs.write.Statement.{statement}
 use Rattle.writing.proofs.write.Tie as tie
 

@@ -1,8 +1,8 @@
-use mathlib.Core.Path.{_≡_, refl, sym, ap, _∙_}
-use borrow.Author.Tests.{eq-eqb, ne-eqb, lt-ltb, le-ltb}
+use mathlib.Core.Path.{refl}
+use borrow.Author.Tests.{eq-eqb, ne-eqb}
+use borrow.Author.Needs.{needs}
 use Rattle.base.proofs.Choice.{took, left}
 use Rattle.writing.specs.Names.{ended}
-use borrow.Author.Needs.{needs}
 use Rattle.writing.proofs.names.all_ended.Statement.{statement}
 use Rattle.writing.proofs.names.all_ended.Tie as tie
 

@@ -1,13 +1,13 @@
+use Prim.Native.Nat.{_+_, _-_, _≤_, _<_}
 use mathlib.Core.Logic.{⊎-elim}
-use Rattle.writing.proofs.NameLaws.{count-here, count-next, names-out}
-use Rattle.writing.specs.Names.{namesAfter, namesOf}
-use mathlib.Core.List.{List, [], _∷_, _++_}
-use lib.ListN.{length, getD, drop}
-use Prim.Native.Nat.{ℕ, suc, _+_, _-_, _*_, _≤_, _<_}
-use denote.Ref.{now}
-use mathlib.Core.Path.{_≡_, refl, sym, ap, _∙_}
+use mathlib.Core.List.{[]}
+use mathlib.Core.Path.{_≡_, ap}
 use native.Mathlib.Omega.{arith}
+use lib.ListN.{length, drop}
+use denote.Ref.{now}
 use borrow.Author.Needs.{needs}
+use Rattle.writing.specs.Names.{namesAfter, namesOf}
+use Rattle.writing.proofs.NameLaws.{count-here, count-next, names-out}
 use Rattle.writing.proofs.names.count.Statement.{statement}
 use Rattle.writing.proofs.names.count.Tie as tie
 

@@ -1,7 +1,7 @@
-use Rattle.writing.proofs.NameLaws.{good-short, good-long, good-by}
+use mathlib.Core.Path.{_∙_}
 use denote.Ref.{now}
-use mathlib.Core.Path.{_≡_, refl, sym, ap, _∙_}
 use borrow.Author.Needs.{needs}
+use Rattle.writing.proofs.NameLaws.{good-short, good-long, good-by}
 use Rattle.writing.proofs.names.good_name.Statement.{statement}
 use Rattle.writing.proofs.names.good_name.Tie as tie
 

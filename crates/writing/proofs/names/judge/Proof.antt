@@ -1,13 +1,13 @@
-use borrow.Author.Tests.{not-true, not-false}
-use Rattle.writing.proofs.NameLaws.{judged-bad, judged-next, judged-none, names-out}
-use Rattle.writing.specs.Names.{namesAfter, namesOf, judgedFrom}
-use mathlib.Core.List.{List, [], _∷_, _++_}
-use lib.ListN.{length, getD, drop}
-use Prim.Native.Nat.{ℕ, suc, _+_, _-_, _*_, _≤_, _<_}
-use denote.Ref.{now}
+use Prim.Native.Nat.{_+_, _-_, _≤_}
+use mathlib.Core.List.{[]}
 use mathlib.Core.Path.{_≡_, refl, sym, ap, _∙_}
 use native.Mathlib.Omega.{arith}
+use borrow.Author.Tests.{not-true, not-false}
+use lib.ListN.{length, drop}
+use denote.Ref.{now}
 use borrow.Author.Needs.{needs}
+use Rattle.writing.specs.Names.{namesAfter, namesOf, judgedFrom}
+use Rattle.writing.proofs.NameLaws.{judged-bad, judged-next, judged-none, names-out}
 use Rattle.writing.proofs.names.judge.Statement.{statement}
 use Rattle.writing.proofs.names.judge.Tie as tie
 

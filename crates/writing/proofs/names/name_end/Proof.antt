@@ -1,13 +1,13 @@
-use Rattle.writing.proofs.NameLaws.{names-here, name-next, part-empty, not-last}
-use Rattle.writing.specs.Names.{namesAfter}
-use Rattle.base.specs.Memory.{part}
-use mathlib.Core.List.{List, [], _∷_, _++_}
-use lib.ListN.{length, getD, drop}
-use Prim.Native.Nat.{ℕ, suc, _+_, _-_, _*_, _≤_, _<_}
-use denote.Ref.{now}
-use mathlib.Core.Path.{_≡_, refl, sym, ap, _∙_}
+use Prim.Native.Nat.{ℕ, _-_, _≤_, _<_}
+use mathlib.Core.List.{List, []}
+use mathlib.Core.Path.{_≡_, sym, ap, _∙_}
 use native.Mathlib.Omega.{arith}
+use lib.ListN.{length, drop}
+use denote.Ref.{now}
 use borrow.Author.Needs.{needs}
+use Rattle.base.specs.Memory.{part}
+use Rattle.writing.specs.Names.{namesAfter}
+use Rattle.writing.proofs.NameLaws.{names-here, name-next, part-empty, not-last}
 use Rattle.writing.proofs.names.name_end.Statement.{statement}
 use Rattle.writing.proofs.names.name_end.Tie as tie
 

@@ -1,5 +1,5 @@
-use Rattle.writing.specs.NamePuts.{choiceType}
 use borrow.Author.Needs.{needs}
+use Rattle.writing.specs.NamePuts.{choiceType}
 use Rattle.writing.proofs.puts.choice_type.Statement.{statement}
 use Rattle.writing.proofs.puts.choice_type.Tie as tie
 

@@ -1,5 +1,5 @@
-use Rattle.writing.specs.NamePuts.{pieceType}
 use borrow.Author.Needs.{needs}
+use Rattle.writing.specs.NamePuts.{pieceType}
 use Rattle.writing.proofs.puts.piece_type.Statement.{statement}
 use Rattle.writing.proofs.puts.piece_type.Tie as tie
 

@@ -1,12 +1,12 @@
-use Rattle.writing.proofs.PutLaws.{choice-room, choice-ran}
-use Rattle.writing.specs.NamePuts.{typeNumber, choiceType, valuePuts}
+use Prim.Native.Nat.{ℕ, _*_}
+use mathlib.Core.List.{[], _∷_}
+use mathlib.Core.Path.{sym, ap, _∙_, subst}
+use denote.Ref.{now}
+use borrow.Author.Needs.{needs}
 use Rattle.laying.specs.Passes.{World, world, stepOf, Roomy}
 use Rattle.laying.specs.Puts.{put}
-use mathlib.Core.List.{List, [], _∷_, _++_}
-use Prim.Native.Nat.{ℕ, suc, _+_, _-_, _*_, _≤_, _<_}
-use denote.Ref.{now}
-use mathlib.Core.Path.{_≡_, refl, sym, ap, _∙_, subst}
-use borrow.Author.Needs.{needs}
+use Rattle.writing.specs.NamePuts.{typeNumber, valuePuts}
+use Rattle.writing.proofs.PutLaws.{choice-room, choice-ran}
 use Rattle.writing.proofs.puts.put_choice.Statement.{statement}
 use Rattle.writing.proofs.puts.put_choice.Tie as tie
 

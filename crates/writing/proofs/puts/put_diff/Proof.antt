@@ -1,11 +1,11 @@
-use Rattle.laying.proofs.Passes.{run-append, roomy-append}
-use Rattle.writing.specs.NamePuts.{tokenPuts, headPuts}
-use Rattle.splitting.specs.Choices.{choicesOf}
-use Rattle.laying.specs.Passes.{World, world, runOf, Roomy}
+use mathlib.Core.Path.{sym, ap, _∙_, subst}
 use native.Mathlib.Omega.{arith}
 use denote.Ref.{now}
-use mathlib.Core.Path.{_≡_, refl, sym, ap, _∙_, subst}
 use borrow.Author.Needs.{needs}
+use Rattle.laying.proofs.Passes.{run-append, roomy-append}
+use Rattle.splitting.specs.Choices.{choicesOf}
+use Rattle.laying.specs.Passes.{World, world, runOf, Roomy}
+use Rattle.writing.specs.NamePuts.{tokenPuts, headPuts}
 use Rattle.writing.proofs.puts.put_diff.Statement.{statement}
 use Rattle.writing.proofs.puts.put_diff.Tie as tie
 

@@ -1,8 +1,8 @@
-use Rattle.writing.proofs.PutLaws.{head-room, head-ran}
-use Rattle.laying.specs.Passes.{World, world, Room}
+use mathlib.Core.Path.{sym, subst}
 use denote.Ref.{now}
-use mathlib.Core.Path.{_≡_, refl, sym, ap, _∙_, subst}
 use borrow.Author.Needs.{needs}
+use Rattle.laying.specs.Passes.{World, world, Room}
+use Rattle.writing.proofs.PutLaws.{head-room, head-ran}
 use Rattle.writing.proofs.puts.put_head.Statement.{statement}
 use Rattle.writing.proofs.puts.put_head.Tie as tie
 

@@ -1,14 +1,14 @@
-use Rattle.writing.proofs.PutLaws.{dup-puts, diff-puts}
-use Rattle.writing.specs.NamePuts.{tokenPuts, headPuts}
-use Rattle.splitting.specs.Choices.{choicesOf}
-use Rattle.laying.specs.Puts.{Put}
-use Rattle.laying.specs.Passes.{World, world, runOf, Roomy}
-use mathlib.Core.List.{List, [], _∷_, _++_}
-use Prim.Native.Nat.{ℕ, suc, _+_, _-_, _*_, _≤_, _<_}
+use Prim.Native.Nat.{ℕ, _+_}
+use mathlib.Core.List.{List, _++_}
+use mathlib.Core.Path.{sym, ap, _∙_, subst}
 use native.Mathlib.Omega.{arith}
 use denote.Ref.{now}
-use mathlib.Core.Path.{_≡_, refl, sym, ap, _∙_, subst}
 use borrow.Author.Needs.{needs}
+use Rattle.splitting.specs.Choices.{choicesOf}
+use Rattle.laying.specs.Puts.{Put}
+use Rattle.laying.specs.Passes.{world, runOf, Roomy}
+use Rattle.writing.specs.NamePuts.{tokenPuts, headPuts}
+use Rattle.writing.proofs.PutLaws.{dup-puts, diff-puts}
 use Rattle.writing.proofs.puts.put_name.Statement.{statement}
 use Rattle.writing.proofs.puts.put_name.Tie as tie
 

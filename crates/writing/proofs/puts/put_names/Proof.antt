@@ -1,12 +1,12 @@
-use Rattle.writing.proofs.Walks.{Naming, names-start, names-room, names-more, names-count, names-end}
-use Rattle.base.specs.Memory.{part}
+use Prim.Native.Nat.{_-_, _<_}
+use mathlib.Core.Path.{_≡_, refl, _∙_}
 use native.Mathlib.Nat.{le-of-lt}
-use Rattle.laying.specs.Passes.{World, world, runOf, Roomy}
 use native.Mathlib.Omega.{arith}
 use lib.ListN.{length}
-use Prim.Native.Nat.{ℕ, suc, _+_, _-_, _*_, _≤_, _<_}
 use denote.Ref.{now}
-use mathlib.Core.Path.{_≡_, refl, sym, ap, _∙_, subst}
+use Rattle.base.specs.Memory.{part}
+use Rattle.laying.specs.Passes.{world}
+use Rattle.writing.proofs.Walks.{Naming, names-start, names-room, names-more, names-count, names-end}
 use Rattle.writing.proofs.puts.put_names.Statement.{statement}
 use Rattle.writing.proofs.puts.put_names.Tie as tie
 

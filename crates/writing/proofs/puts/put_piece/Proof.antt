@@ -1,10 +1,9 @@
-use Rattle.writing.proofs.PutLaws.{string-room, char-room, digits-room, digits0-room, string-ran, char-ran, digits-ran, digits0-ran}
-use Rattle.laying.specs.Passes.{World, world, Room}
-use mathlib.Core.Path.{subst}
-use Prim.Native.Nat.{ℕ, suc, _+_, _-_, _*_, _≤_, _<_}
+use Prim.Native.Nat.{_+_, _*_}
+use mathlib.Core.Path.{subst, sym}
 use denote.Ref.{now}
-use mathlib.Core.Path.{_≡_, refl, sym, ap, _∙_}
 use borrow.Author.Needs.{needs}
+use Rattle.laying.specs.Passes.{World, world, Room}
+use Rattle.writing.proofs.PutLaws.{string-room, char-room, digits-room, digits0-room, string-ran, char-ran, digits-ran, digits0-ran}
 use Rattle.writing.proofs.puts.put_piece.Statement.{statement}
 use Rattle.writing.proofs.puts.put_piece.Tie as tie
 

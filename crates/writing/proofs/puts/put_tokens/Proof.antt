@@ -1,13 +1,12 @@
-use Rattle.writing.proofs.Walks.{Walking, walk-start, walk-room, walk-more, walk-last, walk-end}
-use Rattle.splitting.proofs.Runs.{cut-range}
-use Rattle.splitting.proofs.Pieces.{choice-within}
-use Rattle.laying.specs.Passes.{World, world}
-use borrow.Author.Needs.{needs}
+use Prim.Native.Nat.{_-_, _≤_, _<_}
+use mathlib.Core.Path.{_≡_, refl, _∙_}
 use native.Mathlib.Omega.{arith}
 use lib.ListN.{length}
-use Prim.Native.Nat.{ℕ, suc, _+_, _-_, _*_, _≤_, _<_}
 use denote.Ref.{now}
-use mathlib.Core.Path.{_≡_, refl, sym, ap, _∙_, subst}
+use Rattle.splitting.proofs.Runs.{cut-range}
+use Rattle.splitting.proofs.Pieces.{choice-within}
+use Rattle.laying.specs.Passes.{world}
+use Rattle.writing.proofs.Walks.{Walking, walk-start, walk-room, walk-more, walk-last, walk-end}
 use Rattle.writing.proofs.puts.put_tokens.Statement.{statement}
 use Rattle.writing.proofs.puts.put_tokens.Tie as tie
 

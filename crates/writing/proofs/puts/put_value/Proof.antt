@@ -1,9 +1,7 @@
-use Rattle.writing.proofs.PutLaws.{itself-room, delta-room, delta0-room, itself-ran, delta-ran, delta0-ran, match-ran, end-ran}
-use Rattle.laying.specs.Passes.{World, world}
-use Prim.Native.Nat.{ℕ, suc, _+_, _-_, _*_, _≤_, _<_}
 use denote.Ref.{now}
-use mathlib.Core.Path.{_≡_, refl, sym, ap, _∙_, subst}
 use borrow.Author.Needs.{needs}
+use Rattle.laying.specs.Passes.{world}
+use Rattle.writing.proofs.PutLaws.{itself-room, delta-room, delta0-room, itself-ran, delta-ran, delta0-ran, match-ran, end-ran}
 use Rattle.writing.proofs.puts.put_value.Statement.{statement}
 use Rattle.writing.proofs.puts.put_value.Tie as tie
 

@@ -1,5 +1,5 @@
-use Rattle.writing.specs.NamePuts.{typeNumber}
 use borrow.Author.Needs.{needs}
+use Rattle.writing.specs.NamePuts.{typeNumber}
 use Rattle.writing.proofs.puts.type_number.Statement.{statement}
 use Rattle.writing.proofs.puts.type_number.Tie as tie
 
