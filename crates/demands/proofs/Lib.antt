@@ -12,3 +12,7 @@ pub mod Done
 pub mod Adds
 -- demand 3: any sequence of calls from a fresh start
 pub mod Demand3
+-- demand 1 for writing
+pub mod Unwritten
+-- one outcome only, and the demands of programs that meet the contracts
+pub mod Contracts

@@ -6,3 +6,4 @@ pub mod Printing
 pub mod Refusals
 pub mod Right
 pub mod Adds
+pub mod Traces

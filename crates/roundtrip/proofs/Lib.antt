@@ -13,3 +13,4 @@ pub mod Blocks
 pub mod Spans
 pub mod Inputs
 pub mod RoundTrip
+pub mod Contracts

@@ -1,0 +1,43 @@
+-- Demand 1 for writing: a refused write leaves the directory and the bytes as they were.
+use Prim.Native.Nat.{ℕ}
+use mathlib.Core.Path.{_≡_, refl}
+use mathlib.Core.Bool.{Bool}
+use mathlib.Core.List.{List}
+use native.Mathlib.Omega.{arith}
+use lib.Dec.{leb, eqb}
+use lib.ListN.{length}
+use Rattle.block.specs.declared.Refusal.{Refusal}
+use Rattle.writing.specs.declared.Judged.{Judged}
+use Rattle.writing.specs.declared.Judged.the-variants.{Fine, Bad}
+use Rattle.writing.specs.declared.WriteAnswer.the-variants.{Written, Refused}
+use Rattle.writing.specs.Names.{namesOf, judgedFrom}
+use Rattle.writing.specs.NamePuts.{putsOf}
+use Rattle.laying.specs.Puts.{totalOf}
+use Rattle.writing.specs.Writes.{Writing, countable, laidOf, judgedOf, writeOf}
+use Rattle.steps.proofs.Picks.{pick-holds}
+
+-- if it is refused, both are as they were
+abbrev Unwritten : List ℕ → List ℕ → Writing → Type 0
+Unwritten dir bytes w = (r : Refusal) → w .answer ≡ Refused r → (w .directory ≡ dir) × (w .bytes ≡ bytes)
+
+laid : (names : List (List ℕ)) (dir bytes : List ℕ) → Unwritten dir bytes (laidOf names dir bytes)
+unfolding laidOf
+laid names dir bytes =
+    pick-holds (Unwritten dir bytes) (leb (totalOf (putsOf names)) (length bytes)) _ _
+    (λ a r e. let z : _≡_ {A = ℕ} 0 1 = cc in absurd (omega arith))
+    (λ a r e. (refl, refl))
+
+judged : (j : Judged) (names : List (List ℕ)) (dir bytes : List ℕ) → Unwritten dir bytes (judgedOf j names dir bytes)
+unfolding judgedOf
+judged Fine names dir bytes = laid names dir bytes
+judged (Bad n) names dir bytes = λ r e. (refl, refl)
+
+pub write-refused : (input dir bytes : List ℕ) (r : Refusal) → writeOf input dir bytes .answer ≡ Refused r
+    → (writeOf input dir bytes .directory ≡ dir) × (writeOf input dir bytes .bytes ≡ bytes)
+unfolding writeOf
+write-refused input dir bytes =
+    pick-holds (Unwritten dir bytes) (eqb (length dir) 2580) _ _
+    (λ a. pick-holds (Unwritten dir bytes) (countable input) _ _
+    (λ b. judged (judgedFrom 0 (namesOf input)) (namesOf input) dir bytes)
+    (λ b r e. (refl, refl)))
+    (λ a r e. (refl, refl))
