@@ -1,9 +1,11 @@
--- What a read needs holds again after it: the block is open, and the counts are judged. A read that keeps a name adds one.
+-- What a read needs holds again after it: the block is open, the counts are judged, and what every kept name points to is inside. A read that keeps a name adds one.
 use Prim.Native.Nat.{ℕ, zero, suc, _+_, _-_, _*_, _^_, _≤_, _<_}
-use mathlib.Core.Path.{_≡_, refl, sym, ap, _∙_}
+use mathlib.Core.Path.{_≡_, refl, sym, ap, _∙_, subst}
 use mathlib.Core.Bool.{Bool, true, false}
 use mathlib.Core.List.{List, [], _∷_, _++_}
+use mathlib.Core.Logic.{⊎-elim}
 use native.Mathlib.Omega.{arith}
+use native.Mathlib.Nat.{eq-or-lt-of-le}
 use borrow.Author.Tests.{leb-true, eqb-true, eqb-false}
 use lib.Dec.{leb, eqb}
 use lib.ListN.{length, length-append}
@@ -18,11 +20,15 @@ use Rattle.block.specs.Block.{allAtEnd}
 use Rattle.block.specs.Open.{Open}
 use Rattle.block.proofs.Laws.{open-sound, open-inside}
 use Rattle.kept.specs.declared.Entry.{Entry}
-use Rattle.kept.specs.Tables.{Kept, keeping, room, entryAt}
+use Rattle.kept.specs.declared.Row.{Row}
+use Rattle.kept.specs.Tables.{Kept, keeping, room, entryAt, rowAt}
 use Rattle.kept.specs.Judgement.{counts, earlierFits}
-use Rattle.kept.specs.Inside.{Counted, TextInside}
-use Rattle.kept.proofs.Laws.{earlier, counts-of}
+use Rattle.kept.specs.Inside.{Counted, EntryInside, RowInside}
+use Rattle.kept.proofs.Laws.{earlier, earlier-fits-of, counts-of}
+use Rattle.kept.proofs.Frame.{Alike, alike-written, entry-written, row-written, one-entry, entry-more, earlier-more}
 use Rattle.steps.specs.Source.{Source, source, Earlier}
+use Rattle.steps.specs.Sound.{Rows}
+use Rattle.steps.proofs.Laws.{rows-none, rows-judged}
 use Rattle.steps.proofs.Picks.{pick-holds}
 use Rattle.names.specs.Names.{Draft, draft, Named, named, refused, nameOf}
 use Rattle.names.proofs.Growing.{Grows}
@@ -32,9 +38,11 @@ use Rattle.reading.specs.declared.Head.the-variants as head
 use Rattle.reading.specs.declared.Answer.{Answer}
 use Rattle.reading.specs.declared.Answer.the-variants as answer
 use Rattle.reading.specs.Heads.{Headed}
-use Rattle.reading.specs.Reads.{Outcome, outcome, plain, atName, roomOf, roomFor, entryOf, kept, keepOf, headPast, dupOf, namedOf, diffOf, none, rowsOf, entryBack, dupJudged, diffJudged, headedOf, headOf, nextOf, readOf}
+use Rattle.reading.specs.Reads.{Outcome, outcome, plain, atName, roomOf, roomFor, entryOf, stateAfter, kept, keepOf, headPast, dupOf, namedOf, diffOf, none, rowsOf, entryBack, dupJudged, diffJudged, headedOf, headOf, nextOf, readOf}
+use Rattle.reading.specs.Fits.{AllFit}
 use Rattle.reading.proofs.Heads.{head-same, head-open, dup-told, diff-told}
 use Rattle.reading.proofs.Entries.{Room, has-room}
+use Rattle.reading.proofs.Fitting.{Rowed, name-rowed, row-more}
 
 -- a read that keeps a name, after m
 pub record More (m : Kept) (o : Outcome) : Type 0 where
@@ -45,6 +53,7 @@ pub record More (m : Kept) (o : Outcome) : Type 0 where
 pub record Holds (bytes dir : List ℕ) (m : Kept) (o : Outcome) : Type 0 where
   pub opened : Open bytes dir (o .cur)
   pub counted : Counted (o .kept)
+  pub fits : AllFit m → AllFit (o .kept)
   pub more : (n : ℕ) → o .answer ≡ answer.Kept n → More m o
 
 refused-not : {r : Refusal} {n : ℕ} → answer.Refused r ≡ answer.Kept n → ⊥
@@ -53,21 +62,78 @@ refused-not q = let z : _≡_ {A = ℕ} 0 1 = cc in omega arith
 done-not : {n : ℕ} → answer.Done ≡ answer.Kept n → ⊥
 done-not q = let z : _≡_ {A = ℕ} 0 1 = cc in omega arith
 
+-- a name's entry
+abbrev entered : State → ℕ → ℕ → ℕ → ℕ → Entry
+entered st size first many distance = record { start = st .text; length = size; first = first; rows = many; distance = distance }
+
+-- with a name more, whose entry and rows are inside, all are
+module _ (st : State) (text names rows : List ℕ) (k : Counted (keeping st text names rows)) (size added first many distance : ℕ) (text' more : List ℕ)
+    (inner : EntryInside (stateAfter st size added) (written rows (5 * st .rows) more) (entered st size first many distance)) where
+  abbrev after : Kept
+  after = keeping (stateAfter st size added) text' (written names (5 * st .names) (entryOf st size first many distance)) (written rows (5 * st .rows) more)
+
+  rows-stay : Alike rows (written rows (5 * st .rows) more) (st .rows)
+  rows-stay j l = sym (alike-written rows (5 * st .rows) more (st .rows) (omega arith) (k .rowsUsed) j l)
+
+  names-stay : Alike names (written names (5 * st .names) (entryOf st size first many distance)) (st .names)
+  names-stay j l = sym (alike-written names (5 * st .names) (entryOf st size first many distance) (st .names) (omega arith) (k .entries) j l)
+
+  new-entry : (i : ℕ) → i ≡ st .names → entryAt (written names (5 * st .names) (entryOf st size first many distance)) i ≡ entered st size first many distance
+  new-entry i e =
+      entry-written names (st .names) (entryOf st size first many distance) i 0 (k .entries) (omega arith) (omega arith)
+      ∙ one-entry (st .text) size first many distance
+
+  fit-more : AllFit (keeping st text names rows) → AllFit after
+  fit-more f i l =
+      earlier-fits-of after i
+      (⊎-elim
+      (λ e. subst (λ (x : Entry). EntryInside (stateAfter st size added) (written rows (5 * st .rows) more) x) (sym (new-entry i e)) inner)
+      (λ h. earlier-more (keeping st text names rows) after (st .names) (omega arith) (omega arith) names-stay rows-stay i h (earlier (keeping st text names rows) i (f i h)))
+      (eq-or-lt-of-le {n = i} {m = st .names} (omega arith)))
+
+module _ (st : State) (text names rows : List ℕ) (k : Counted (keeping st text names rows)) where
+  -- a copy has the earlier name's rows
+  copy-inner : (x : Entry) (size distance : ℕ) → size ≡ x .length → EntryInside st rows x
+      → EntryInside (stateAfter st size 0) (written rows (5 * st .rows) []) (entered st size (x .first) (x .rows) distance)
+  copy-inner x size distance e i =
+      let w : EntryInside (stateAfter st size 0) (written rows (5 * st .rows) []) x =
+      entry-more st (stateAfter st size 0) rows (written rows (5 * st .rows) []) (omega arith) (omega arith)
+      (λ j l. sym (alike-written rows (5 * st .rows) [] (st .rows) (omega arith) (k .rowsUsed) j l)) x i in
+      record {
+        text = record { some = omega (arith, i .text .some); most = omega (arith, i .text .most); ends = omega arith };
+        rows = record { some = i .rows .some; most = i .rows .most; ends = w .rows .ends };
+        each = w .each;
+      }
+
+  -- a name that was read has its own
+  named-inner : (D : Draft) (distance : ℕ) → 1 ≤ length (D .text) → length (D .text) ≤ 254 → 1 ≤ D .count → D .count ≤ 127 → Rowed (st .text) D
+      → EntryInside (stateAfter st (length (D .text)) (D .count)) (written rows (5 * st .rows) (D .rows)) (entered st (length (D .text)) (st .rows) (D .count) distance)
+  named-inner D distance some short one most r =
+      record {
+        text = record { some = some; most = short; ends = omega arith };
+        rows = record { some = one; most = most; ends = omega arith };
+        each = λ j a b.
+            subst (λ (x : Row). RowInside (st .text + length (D .text) + 1) x)
+            (sym (row-written rows (st .rows) (D .rows) j (j - st .rows) (k .rowsUsed) (omega arith) (omega (arith, r .fives))))
+            (row-more (st .text + length (D .text)) (st .text + length (D .text) + 1) (omega arith) (rowAt (D .rows) (j - st .rows)) (r .each (j - st .rows) (omega arith)));
+      }
+
 module _ (bytes dir cur text names rows : List ℕ) (st : State) (o : Open bytes dir cur) (k : Counted (keeping st text names rows)) where
   at-holds : (n : ℕ) → Holds bytes dir (keeping st text names rows) (atName (source bytes dir cur) (keeping st text names rows) n)
   unfolding atName
-  at-holds n = record { opened = o; counted = k; more = λ i q. absurd (refused-not q) }
+  at-holds n = record { opened = o; counted = k; fits = λ f. f; more = λ i q. absurd (refused-not q) }
 
   plain-holds : (n : ℕ) → Holds bytes dir (keeping st text names rows) (plain (source bytes dir cur) (keeping st text names rows) n)
   unfolding plain
-  plain-holds n = record { opened = o; counted = k; more = λ i q. absurd (refused-not q) }
+  plain-holds n = record { opened = o; counted = k; fits = λ f. f; more = λ i q. absurd (refused-not q) }
 
   done-holds : Holds bytes dir (keeping st text names rows) (outcome answer.Done cur (keeping st text names rows))
-  done-holds = record { opened = o; counted = k; more = λ i q. absurd (done-not q) }
+  done-holds = record { opened = o; counted = k; fits = λ f. f; more = λ i q. absurd (done-not q) }
 
   module _ (few : st .names < st .count) where
     module _ (d : Draft) (first many distance : ℕ) (p : Open bytes dir (d .cur)) (short : length (d .text) ≤ 254) (most : d .count ≤ 127)
-        (fives : length (d .rows) ≡ 5 * d .count) where
+        (fives : length (d .rows) ≡ 5 * d .count)
+        (inner : EntryInside (stateAfter st (length (d .text)) (d .count)) (written rows (5 * st .rows) (d .rows)) (entered st (length (d .text)) first many distance)) where
       kept-holds : roomFor (keeping st text names rows) d ≡ true → Holds bytes dir (keeping st text names rows) (kept (keeping st text names rows) d first many distance)
       unfolding roomFor kept
       kept-holds h =
@@ -88,6 +154,7 @@ module _ (bytes dir cur text names rows : List ℕ) (st : State) (o : Open bytes
                   rowsUsed = omega (arith, r .table);
                   rowsMost = omega (arith, k .rowsMost);
                 };
+            fits = fit-more st text names rows k (length (d .text)) (d .count) first many distance (written text (st .text) (d .text ++ (10 ∷ []))) (d .rows) inner;
             more = λ n q. record { few = few; names = refl; count = refl };
           }
 
@@ -96,35 +163,38 @@ module _ (bytes dir cur text names rows : List ℕ) (st : State) (o : Open bytes
       keep-holds =
           pick-holds (Holds bytes dir (keeping st text names rows)) (roomFor (keeping st text names rows) d) _ _ kept-holds (λ h. at-holds 9)
 
-    dup-holds : (distance : ℕ) (x : Entry) → Headed (source bytes dir cur) 5 distance (st .names) → TextInside st x
+    dup-holds : (distance : ℕ) (x : Entry) → Headed (source bytes dir cur) 5 distance (st .names) → EntryInside st rows x
         → Holds bytes dir (keeping st text names rows) (dupOf (source bytes dir cur) (keeping st text names rows) distance x)
     unfolding dupOf
     dup-holds distance x g i =
-        let l = length-part text (x .start) (x .start + x .length) (omega arith) (omega (arith, i .ends, k .used)) in
+        let l = length-part text (x .start) (x .start + x .length) (omega arith) (omega (arith, i .text .ends, k .used)) in
         keep-holds (draft (part text (x .start) (x .start + x .length)) [] 0 (headPast cur 5)) (x .first) (x .rows) distance
-        (head-open bytes dir cur 5 distance (st .names) o (omega arith) (omega arith) g) (omega (arith, i .most)) (omega arith) refl
+        (head-open bytes dir cur 5 distance (st .names) o (omega arith) (omega arith) g) (omega (arith, i .text .most)) (omega arith) refl
+        (copy-inner st text names rows k x (length (part text (x .start) (x .start + x .length))) distance (omega arith) i)
 
-    named-holds : (distance : ℕ) (e : Earlier) → Headed (source bytes dir cur) 6 distance (st .names) → (n : Named)
+    named-holds : (distance : ℕ) (e : Earlier) → Rows (st .text) e → Headed (source bytes dir cur) 6 distance (st .names) → (n : Named)
         → nameOf (source bytes dir cur) e (st .text) (headPast cur 6) ≡ n → Holds bytes dir (keeping st text names rows) (namedOf (source bytes dir cur) (keeping st text names rows) distance n)
     unfolding namedOf
-    named-holds distance e g (named D) q =
+    named-holds distance e r g (named D) q =
         let b = name-bounds (source bytes dir cur) e (st .text) (headPast cur 6) D q in
         let p = head-open bytes dir cur 6 distance (st .names) o (omega arith) (omega arith) g in
         keep-holds D (st .rows) (D .count) distance (name-open bytes dir cur e (st .text) (headPast cur 6) D p (head-same cur 6 (omega arith)) q)
         (b .short (omega arith)) (omega (arith, b .few)) (b .fives refl)
-    named-holds distance e g (refused r) q = at-holds r
+        (named-inner st text names rows k D distance (b .some) (b .short (omega arith)) (b .held (λ z. absurd (omega arith))) (omega (arith, b .few))
+        (name-rowed (source bytes dir cur) e (st .text) o r (headPast cur 6) D q))
+    named-holds distance e w g (refused r) q = at-holds r
 
-    diff-holds : (distance : ℕ) (e : Earlier) → Headed (source bytes dir cur) 6 distance (st .names)
+    diff-holds : (distance : ℕ) (e : Earlier) → Rows (st .text) e → Headed (source bytes dir cur) 6 distance (st .names)
         → Holds bytes dir (keeping st text names rows) (diffOf (source bytes dir cur) (keeping st text names rows) distance e)
     unfolding diffOf
-    diff-holds distance e g = named-holds distance e g (nameOf (source bytes dir cur) e (st .text) (headPast cur 6)) refl
+    diff-holds distance e r g = named-holds distance e r g (nameOf (source bytes dir cur) e (st .text) (headPast cur 6)) refl
 
     dup-judged-holds : (d : ℕ) → Headed (source bytes dir cur) 5 d (st .names)
         → Holds bytes dir (keeping st text names rows) (dupJudged (source bytes dir cur) (keeping st text names rows) d)
     unfolding entryBack
     dup-judged-holds d g =
         pick-holds (Holds bytes dir (keeping st text names rows)) (earlierFits (keeping st text names rows) (st .names - d)) _ _
-        (λ h. dup-holds d (entryAt names (st .names - d)) g (earlier (keeping st text names rows) (st .names - d) h .text))
+        (λ h. dup-holds d (entryAt names (st .names - d)) g (earlier (keeping st text names rows) (st .names - d) h))
         (λ h. at-holds 13)
 
     first-headed : (d : ℕ) → d ≡ 0 → Headed (source bytes dir cur) 6 d (st .names) → Headed (source bytes dir cur) 6 0 (st .names)
@@ -132,12 +202,14 @@ module _ (bytes dir cur text names rows : List ℕ) (st : State) (o : Open bytes
 
     diff-judged-holds : (d : ℕ) → Headed (source bytes dir cur) 6 d (st .names)
         → Holds bytes dir (keeping st text names rows) (diffJudged (source bytes dir cur) (keeping st text names rows) d)
+    unfolding none rowsOf entryBack
     diff-judged-holds d g =
         pick-holds (Holds bytes dir (keeping st text names rows)) (eqb d 0) _ _
-        (λ z. diff-holds 0 (none (keeping st text names rows)) (first-headed d (eqb-true d 0 z) g))
+        (λ z. diff-holds 0 (none (keeping st text names rows)) (rows-none (st .text) text rows (k .used)) (first-headed d (eqb-true d 0 z) g))
         (λ z.
         pick-holds (Holds bytes dir (keeping st text names rows)) (earlierFits (keeping st text names rows) (st .names - d)) _ _
-        (λ h. diff-holds d (rowsOf (keeping st text names rows) (entryBack (keeping st text names rows) d)) g)
+        (λ h. diff-holds d (rowsOf (keeping st text names rows) (entryBack (keeping st text names rows) d))
+        (rows-judged st text rows (entryAt names (st .names - d)) (k .rowsUsed) (k .used) (earlier (keeping st text names rows) (st .names - d) h)) g)
         (λ h. at-holds 13))
 
     headed-holds : (h : Head) → headOf (source bytes dir cur) (st .names) ≡ h

@@ -23,6 +23,7 @@ use Rattle.steps.specs.Source.{Source, source}
 use Rattle.reading.specs.declared.Reading.{Reading}
 use Rattle.reading.specs.declared.Answer.{Answer}
 use Rattle.reading.specs.declared.Answer.the-variants as answer
+use Rattle.reading.specs.Fits.{AllFit}
 use Rattle.reading.specs.Reads.{Outcome, outcome, refusingPlain, plain, nextOf, readOf}
 use Rattle.reading.specs.Blocks.{isKept, fresh, goOn, readsFrom, openedOf, blockOf}
 use Rattle.reading.proofs.Holding.{More, Holds, next-holds, read-next}
@@ -78,10 +79,11 @@ kept-more m o (answer.Kept n) e q h = h n e
 kept-more m o answer.Done e q h = absurd (never q)
 kept-more m o (answer.Refused r) e q h = absurd (never q)
 
--- where the next read starts: the block is open, the counts are judged, and the reads left make the whole
+-- where the next read starts: the block is open, the counts are judged, every kept name fits, and the reads left make the whole
 pub record Reads (bytes dir : List ℕ) (all : Outcome) (cur : List ℕ) (m : Kept) : Type 0 where
   pub opened : Open bytes dir cur
   pub counted : Counted m
+  pub fits : AllFit m
   pub goes : readsFrom bytes dir (m .state .count - m .state .names + 1) (fresh cur m) ≡ all
 
 module _ (bytes dir : List ℕ) (all : Outcome) (cur text names rows : List ℕ) (st : State) (i : Reads bytes dir all cur (keeping st text names rows))
@@ -111,7 +113,7 @@ module _ (bytes dir : List ℕ) (all : Outcome) (cur text names rows : List ℕ)
       let w = more q in
       let f : st .count - st .names ≡ suc (o .kept .state .count - o .kept .state .names) = omega (arith, w .few, w .names, w .count) in
       let g = sym (kept-on (readsFrom bytes dir (st .count - st .names)) o (o .answer) q) ∙ one in
-      record { opened = holds .opened; counted = holds .counted; goes = rw add-one (rw f at g) }
+      record { opened = holds .opened; counted = holds .counted; fits = holds .fits (i .fits); goes = rw add-one (rw f at g) }
 
 -- a whole block
 module _ (bytes dir cur text names rows : List ℕ) (st : State) (count : ℕ) where
@@ -121,21 +123,24 @@ module _ (bytes dir cur text names rows : List ℕ) (st : State) (count : ℕ) w
   block-refused q e = rw (← q, e)
 
   pub block-starts : {s : State} {cur' : List ℕ} {a : Opened} → opening a cur' ≡ openOf (length bytes) dir count cur → a ≡ opened.Fresh s
-      → Open bytes dir cur' × Counted (keeping s text names rows)
+      → Open bytes dir cur' × (Counted (keeping s text names rows) × AllFit (keeping s text names rows))
   block-starts {s} {cur'} q e =
       let p = sym q ∙ ap (λ (x : Opened). opening x cur') e in
       let c = accepted (length bytes) dir count cur p in (
         accepted-open bytes dir count cur p,
-        rw (c .state)
-            (record {
-              kept = omega arith;
-              limit = c .few;
-              entries = omega arith;
-              used = omega arith;
-              most = omega arith;
-              rowsUsed = omega arith;
-              rowsMost = omega arith;
-            }),
+        (
+          rw (c .state)
+              (record {
+                kept = omega arith;
+                limit = c .few;
+                entries = omega arith;
+                used = omega arith;
+                most = omega arith;
+                rowsUsed = omega arith;
+                rowsMost = omega arith;
+              }),
+          λ i l. absurd (omega (arith, ap (λ (x : State). x .names) (c .state))),
+        ),
       )
 
   pub block-is : {s : State} {cur' : List ℕ} {a : Opened} {o : Outcome} → opening a cur' ≡ openOf (length bytes) dir count cur → a ≡ opened.Fresh s

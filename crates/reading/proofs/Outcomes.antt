@@ -28,6 +28,7 @@ use Rattle.reading.specs.declared.Reading.{Reading}
 use Rattle.block.specs.declared.Refusal.the-variants as refusal
 use Rattle.reading.specs.declared.Answer.{Answer}
 use Rattle.reading.specs.declared.Answer.the-variants as answer
+use Rattle.reading.specs.Fits.{Known}
 use Rattle.reading.specs.Heads.{Headed}
 use Rattle.reading.specs.Reads.{Outcome, outcome, reading, finishing, refusing, refusingPlain, plain, atName, dupOf, diffOf, none, rowsOf, entryBack, dupJudged, diffJudged, headedOf, headOf, nextOf, readOf}
 use Rattle.reading.proofs.Entries.{refused-at}
@@ -39,6 +40,10 @@ module _ (st : State) (text names rows : List ℕ) (d : ℕ) (c : Counted (keepi
 
   pub back-fits : {r : Bool} {t : Bool} → r ≡ earlierFits (keeping st [] names rows) (st .names - d) → r ≡ t → earlierFits (keeping st text names rows) (st .names - d) ≡ t
   back-fits e q = sym (earlier-text st [] text names rows (st .names - d)) ∙ sym e ∙ q
+
+  -- where all fit, so does the earlier one
+  pub back-known : {b : Bool} → Known b (keeping st text names rows) → b ≡ true → earlierFits (keeping st [] names rows) (st .names - d) ≡ true
+  back-known f q = earlier-text st [] text names rows (st .names - d) ∙ f q (st .names - d) (omega arith)
 
   pub back-inside : earlierFits (keeping st text names rows) (st .names - d) ≡ true → inside.Earlier (keeping st text names rows) (st .names - d)
   back-inside h = earlier (keeping st text names rows) (st .names - d) h

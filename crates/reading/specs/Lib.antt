@@ -1,3 +1,4 @@
 pub mod Reads
 pub mod Heads
 pub mod Blocks
+pub mod Fits

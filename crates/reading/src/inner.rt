@@ -1,14 +1,18 @@
-// The inner read: one name, where the block is known to be open and the counts to be judged.
+// The inner read: one name, where the block is known to be open and the counts to be judged;
+// the earlier name too, where all that is kept is known to fit: from opening on that stays so.
 ghost use mathlib.Core.Path.{_≡_};
-ghost use mathlib.Core.List.{List};
-ghost use Prim.Native.Nat.{ℕ, _≤_};
+ghost use mathlib.Core.Bool.{true};
+ghost use mathlib.Core.List.{List, []};
+ghost use Prim.Native.Nat.{ℕ, _≤_, _+_, _*_};
 ghost use lib.ListN.{length};
 ghost use Rattle.classes.specs.Classes.{classTable};
 ghost use Rattle.block.specs.Block.{allAtEnd};
 ghost use Rattle.block.specs.Open.{Open};
 ghost use Rattle.kept.specs.Tables.{keeping};
+ghost use Rattle.kept.specs.Judgement.{earlierFits};
 ghost use Rattle.kept.specs.Inside.{Counted};
 ghost use Rattle.steps.specs.Source.{source};
+ghost use Rattle.reading.specs.Fits.{Known};
 ghost use Rattle.reading.specs.Heads.{Headed, Passable};
 ghost use Rattle.reading.specs.Reads.{outcome, finishing, dupJudged, diffJudged, nextOf};
 use crate::Answer;
@@ -22,8 +26,22 @@ use kept::judgement;
 use kept::tables;
 use spans::Distance;
 
-// DUP, with the earlier name judged.
+// Refusal 13 for an earlier name is given where this is false; what is known isn't judged again.
+fn fits_back(known: bool, state: State, entries: &[u32], rows: &[u32], back: u32) -> bool
+    requires { ⌜ (5 * back + 5 ≤ length (now entries)) × (5 * state .rows ≤ length (now rows)) ⌝ }
+    requires { ⌜ (known ≡ true → earlierFits (keeping state [] (now entries) (now rows)) back ≡ true) ⌝ }
+    ensures { λ r. ⌜ r ≡ earlierFits (keeping state [] (now (entries .entry)) (now (rows .entry))) back ⌝ }
+{
+    if known {
+        true
+    } else {
+        judgement::earlier_fits(state, entries, rows, back)
+    }
+}
+
+// DUP, with the earlier name judged or known to fit.
 fn dup(
+    known: bool,
     cursors: &mut [u32],
     text: &mut [u8],
     entries: &mut [u32],
@@ -34,10 +52,11 @@ fn dup(
     requires { ⌜ Counted (keeping state (now text) (now entries) (now rows)) ⌝ }
     requires { ⌜ (1 ≤ distance .0) × (distance .0 ≤ state .names) ⌝ }
     requires { ⌜ (length (now cursors) ≡ 1290) × Passable (now cursors) 5 ⌝ }
+    requires { ⌜ Known known (keeping state (now text) (now entries) (now rows)) ⌝ }
     ensures { λ r. ⌜ ((bytes dir : List ℕ) → outcome (r .answer) (now (cursors .exit)) (keeping (r .state) (now (text .exit)) (now (entries .exit)) (now (rows .entry))) ≡ dupJudged (source bytes dir (now (cursors .entry))) (keeping state (now (text .entry)) (now (entries .entry)) (now (rows .entry))) (distance .0)) ⌝ }
 {
     let back = state.names - distance.0;
-    if judgement::earlier_fits(state, entries, rows, back) {
+    if fits_back(known, state, entries, rows, back) {
         let e = tables::entry_at(entries, back);
         naming::copied(cursors, text, entries, rows, state, distance, e)
     } else {
@@ -45,8 +64,9 @@ fn dup(
     }
 }
 
-// DIFF, with the earlier name judged if there is one.
+// DIFF, with the earlier name judged or known to fit if there is one.
 fn diff(
+    known: bool,
     table: &[u8; 256],
     bytes: &[u8],
     dir: &[u32],
@@ -61,6 +81,7 @@ fn diff(
     requires { ⌜ Open (now bytes) (now dir) (now cursors) ⌝ }
     requires { ⌜ Counted (keeping state (now text) (now entries) (now rows)) ⌝ }
     requires { ⌜ Headed (source (now bytes) (now dir) (now cursors)) 6 (distance .0) (state .names) ⌝ }
+    requires { ⌜ Known known (keeping state (now text) (now entries) (now rows)) ⌝ }
     ensures { λ r. ⌜ outcome (r .answer) (now (cursors .exit)) (keeping (r .state) (now (text .exit)) (now (entries .exit)) (now (rows .exit))) ≡ diffJudged (source (now (bytes .entry)) (now (dir .entry)) (now (cursors .entry))) (keeping state (now (text .entry)) (now (entries .entry)) (now (rows .entry))) (distance .0) ⌝ }
 {
     let d = distance.0;
@@ -80,7 +101,7 @@ fn diff(
         );
     }
     let back = state.names - d;
-    if judgement::earlier_fits(state, entries, rows, back) {
+    if fits_back(known, state, entries, rows, back) {
         let e = tables::entry_at(entries, back);
         naming::named(
             table,
@@ -119,6 +140,7 @@ fn finish(dir: &[u32], cursors: &[u32], state: State) -> Reading
 }
 
 pub fn next(
+    known: bool,
     table: &[u8; 256],
     bytes: &[u8],
     dir: &[u32],
@@ -131,6 +153,7 @@ pub fn next(
     requires { ⌜ now table ≡ classTable ⌝ }
     requires { ⌜ Open (now bytes) (now dir) (now cursors) ⌝ }
     requires { ⌜ Counted (keeping state (now text) (now entries) (now rows)) ⌝ }
+    requires { ⌜ Known known (keeping state (now text) (now entries) (now rows)) ⌝ }
     ensures { λ r. ⌜ outcome (r .answer) (now (cursors .exit)) (keeping (r .state) (now (text .exit)) (now (entries .exit)) (now (rows .exit))) ≡ nextOf (source (now (bytes .entry)) (now (dir .entry)) (now (cursors .entry))) (keeping state (now (text .entry)) (now (entries .entry)) (now (rows .entry))) ⌝ }
 {
     let k = state.names;
@@ -138,8 +161,19 @@ pub fn next(
         return finish(dir, cursors, state);
     }
     match heading::head(bytes, dir, cursors, k) {
-        Head::Dup(d) => dup(cursors, text, entries, rows, state, d),
-        Head::Diff(d) => diff(table, bytes, dir, cursors, text, entries, rows, state, d),
+        Head::Dup(d) => dup(known, cursors, text, entries, rows, state, d),
+        Head::Diff(d) => diff(
+            known,
+            table,
+            bytes,
+            dir,
+            cursors,
+            text,
+            entries,
+            rows,
+            state,
+            d,
+        ),
         Head::Refused(r) => naming::refuse(r, state),
     }
 }

@@ -11,6 +11,7 @@ ghost use Rattle.kept.specs.Tables.{keeping};
 ghost use Rattle.kept.specs.Judgement.{counts};
 ghost use Rattle.kept.specs.Inside.{Counted};
 ghost use Rattle.steps.specs.Source.{source};
+ghost use Rattle.reading.specs.Fits.{AllFit};
 ghost use Rattle.reading.specs.Reads.{outcome, refusingPlain, readOf};
 ghost use Rattle.reading.specs.Blocks.{isKept, fresh, readsFrom, blockOf};
 use block::Block;
@@ -88,7 +89,17 @@ pub fn read(
     if block::sound(bytes, dir, cursors) {
         if judged(dir, cursors, text, entries, rows, state) {
             let table = classes::table();
-            inner::next(&table, bytes, dir, cursors, text, entries, rows, state)
+            inner::next(
+                false,
+                &table,
+                bytes,
+                dir,
+                cursors,
+                text,
+                entries,
+                rows,
+                state,
+            )
         } else {
             refuse_plain(13, state)
         }
@@ -121,11 +132,22 @@ fn reads(
     requires { ⌜ now table ≡ classTable ⌝ }
     requires { ⌜ Open (now bytes) (now dir) (now cursors) ⌝ }
     requires { ⌜ Counted (keeping state (now text) (now entries) (now rows)) ⌝ }
+    requires { ⌜ AllFit (keeping state (now text) (now entries) (now rows)) ⌝ }
     ensures { λ r. ⌜ outcome (r .answer) (now (cursors .exit)) (keeping (r .state) (now (text .exit)) (now (entries .exit)) (now (rows .exit))) ≡ readsFrom (now (bytes .entry)) (now (dir .entry)) (state .count - state .names + 1) (fresh (now (cursors .entry)) (keeping state (now (text .entry)) (now (entries .entry)) (now (rows .entry)))) ⌝ }
 {
     let mut so_far = state;
     loop {
-        let r = inner::next(table, bytes, dir, cursors, text, entries, rows, so_far);
+        let r = inner::next(
+            true,
+            table,
+            bytes,
+            dir,
+            cursors,
+            text,
+            entries,
+            rows,
+            so_far,
+        );
         let answer = r.answer;
         if keeps(answer) {
             so_far = r.state;

@@ -1,4 +1,5 @@
 use Rattle.reading.proofs.Loops.{read-judged, read-is, read-misjudged, read-unsound}
+use Rattle.base.proofs.Choice.{never}
 use Rattle.block.proofs.Laws.{sound-directory, sound-table}
 use denote.Ref.{now}
 use mathlib.Core.Path.{_≡_, refl, sym, ap, _∙_}
@@ -20,7 +21,8 @@ table-requires c κs = search needs
 next-requires : tie.Need-next-requires
 next-requires c κs =
     let z = c .before .before .before .before .before .before .before .before .before .before .before .before .before .before .before .before .before .before .before .before .before in let a = z .args in
-    (c .before .before .before .before .before .table .ensures, read-judged (now (a .bytes)) (now (a .dir)) (now (a .cursors)) (now (a .text)) (now (a .entries)) (now (a .rows)) (a .state) (sym (c .before .before .before .before .before .before .before .before .before .before .before .before .before .sound .ensures) ∙ c .before .before .before .before .before .before .before .before .before .before .before .before .if1 .taken) (sym (c .before .before .before .before .before .before .before .judged .ensures) ∙ c .before .before .before .before .before .before .if2 .taken))
+    let j = read-judged (now (a .bytes)) (now (a .dir)) (now (a .cursors)) (now (a .text)) (now (a .entries)) (now (a .rows)) (a .state) (sym (c .before .before .before .before .before .before .before .before .before .before .before .before .before .sound .ensures) ∙ c .before .before .before .before .before .before .before .before .before .before .before .before .if1 .taken) (sym (c .before .before .before .before .before .before .before .judged .ensures) ∙ c .before .before .before .before .before .before .if2 .taken) in
+    (c .before .before .before .before .before .table .ensures, (j .0, (j .1, λ q. absurd (never q))))
 
 refuse-plain-requires : tie.Need-refuse-plain-requires
 refuse-plain-requires c κs = search needs

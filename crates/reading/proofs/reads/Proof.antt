@@ -17,10 +17,10 @@ abbrev μ-loop : tie.MeasureT-loop
 μ-loop table bytes dir cursors₀ text₀ entries₀ rows₀ so-far₀ cursors text entries rows so-far = so-far .count - so-far .names
 
 loop-holds : tie.Need-loop-holds Inv-loop μ-loop
-loop-holds c = let a = c .before .before .before .before .before .before in (record { opened = a .pre .1 .0; counted = a .pre .1 .1; goes = refl }, (refl, (refl, refl)))
+loop-holds c = let a = c .before .before .before .before .before .before in (record { opened = a .pre .1 .0; counted = a .pre .1 .1 .0; fits = a .pre .1 .1 .1; goes = refl }, (refl, (refl, refl)))
 
 next-requires : tie.Need-next-requires Inv-loop μ-loop
-next-requires c κs = let h = c .before .before .before .before in (h .before .before .before .before .before .before .before .pre .0, (h .loop .inv .0 .opened, h .loop .inv .0 .counted))
+next-requires c κs = let h = c .before .before .before .before in (h .before .before .before .before .before .before .before .pre .0, (h .loop .inv .0 .opened, (h .loop .inv .0 .counted, λ q. h .loop .inv .0 .fits)))
 
 keeps-requires : tie.Need-keeps-requires Inv-loop μ-loop
 keeps-requires c κs = search needs
@@ -34,20 +34,20 @@ loop-again : tie.Need-loop-again Inv-loop μ-loop
 loop-again c =
     let h = c .before .before .before .before .before .before .before .before .before .before .before .before .before .before .before .before in (
       reads-on _ _ _ _ _ _ _ _ (h .loop .inv .0) _ (c .before .before .before .before .before .before .before .before .before .before .before .next .ensures) (sym (c .before .before .keeps .ensures) ∙ c .before .if1 .taken),
-      (c .before .before .before .before .before .before .before .before .before .before .before .next .kept .1 .1 .1 .1 .0 ∙ h .loop .inv .1 .0, (c .before .before .before .before .before .before .before .before .before .before .before .next .kept .1 .1 .1 .1 .1 .0 ∙ h .loop .inv .1 .1 .0, c .before .before .before .before .before .before .before .before .before .before .before .next .kept .1 .1 .1 .1 .1 .1 .0 ∙ h .loop .inv .1 .1 .1)),
+      (c .before .before .before .before .before .before .before .before .before .before .before .next .kept .1 .1 .1 .1 .1 .0 ∙ h .loop .inv .1 .0, (c .before .before .before .before .before .before .before .before .before .before .before .next .kept .1 .1 .1 .1 .1 .1 .0 ∙ h .loop .inv .1 .1 .0, c .before .before .before .before .before .before .before .before .before .before .before .next .kept .1 .1 .1 .1 .1 .1 .1 .0 ∙ h .loop .inv .1 .1 .1)),
     )
 
 same-length : tie.Need-same-length Inv-loop μ-loop
-same-length c = let h = c .before .before .before .before .before .before .before .before .before .before .before .before .before .before .before in c .before .before .before .before .before .before .before .before .before .before .next .kept .1 .1 .1 .0 ∙ h .loop .inv .0 .opened .table ∙ sym (h .before .before .before .before .before .before .before .pre .1 .0 .table)
+same-length c = let h = c .before .before .before .before .before .before .before .before .before .before .before .before .before .before .before in c .before .before .before .before .before .before .before .before .before .before .next .kept .1 .1 .1 .1 .0 ∙ h .loop .inv .0 .opened .table ∙ sym (h .before .before .before .before .before .before .before .pre .1 .0 .table)
 
 same-length-2 : tie.Need-same-length-2 Inv-loop μ-loop
-same-length-2 c = let h = c .before .before .before .before .before .before .before .before .before .before .before .before .before .before .before in c .before .before .before .before .before .before .before .before .before .before .next .kept .1 .1 .1 .1 .0 ∙ h .loop .inv .1 .0
+same-length-2 c = let h = c .before .before .before .before .before .before .before .before .before .before .before .before .before .before .before in c .before .before .before .before .before .before .before .before .before .before .next .kept .1 .1 .1 .1 .1 .0 ∙ h .loop .inv .1 .0
 
 same-length-3 : tie.Need-same-length-3 Inv-loop μ-loop
-same-length-3 c = let h = c .before .before .before .before .before .before .before .before .before .before .before .before .before .before .before in c .before .before .before .before .before .before .before .before .before .before .next .kept .1 .1 .1 .1 .1 .0 ∙ h .loop .inv .1 .1 .0
+same-length-3 c = let h = c .before .before .before .before .before .before .before .before .before .before .before .before .before .before .before in c .before .before .before .before .before .before .before .before .before .before .next .kept .1 .1 .1 .1 .1 .1 .0 ∙ h .loop .inv .1 .1 .0
 
 same-length-4 : tie.Need-same-length-4 Inv-loop μ-loop
-same-length-4 c = let h = c .before .before .before .before .before .before .before .before .before .before .before .before .before .before .before in c .before .before .before .before .before .before .before .before .before .before .next .kept .1 .1 .1 .1 .1 .1 .0 ∙ h .loop .inv .1 .1 .1
+same-length-4 c = let h = c .before .before .before .before .before .before .before .before .before .before .before .before .before .before .before in c .before .before .before .before .before .before .before .before .before .before .next .kept .1 .1 .1 .1 .1 .1 .1 .0 ∙ h .loop .inv .1 .1 .1
 
 returns : tie.Need-returns Inv-loop μ-loop
 returns c =
