@@ -1,0 +1,94 @@
+use Rattle.lines.proofs.Walks.{Walking, walk-start, walk-room, walk-more, walk-last, walk-end}
+use Rattle.splitting.proofs.Runs.{cut-range}
+use Rattle.splitting.proofs.Pieces.{choice-within}
+use Rattle.lines.specs.Page.{page}
+use native.Mathlib.Omega.{arith}
+use lib.ListN.{length}
+use Prim.Native.Nat.{ℕ, _+_, _-_, _≤_, _<_}
+use denote.Ref.{now}
+use mathlib.Core.Path.{_≡_, refl, _∙_}
+use Rattle.lines.proofs.line.put_tokens.Statement.{statement}
+use Rattle.lines.proofs.line.put_tokens.Tie as tie
+
+abbrev Inv-loop : tie.InvT-loop
+Inv-loop out₀ at table before name next₀ p₀ a₀ b₀ out next p a b = (length out ≡ length out₀) × Walking before name (page out₀ at) (page out next) p a b
+
+abbrev μ-loop : tie.MeasureT-loop
+μ-loop out₀ at table before name next₀ p₀ a₀ b₀ out next p a b = length name - a
+
+loop-holds : tie.Need-loop-holds Inv-loop μ-loop
+loop-holds c =
+    let s = c .before .before .before in
+    let a = s .args in
+    (refl, walk-start (now (a .before)) (now (a .name)) (page (now (a .out)) (a .at)) (s .pre .1))
+
+choice-at-requires : tie.Need-choice-at-requires Inv-loop μ-loop
+choice-at-requires c κs = (c .before .before .before .before .before .pre .0, c .loop-test .taken)
+
+put-choice-requires : tie.Need-put-choice-requires Inv-loop μ-loop
+put-choice-requires c κs =
+    let l = c .before .before .before .loop in
+    let s = c .before .before .before .before .before .before .before in
+    let a = s .args in
+    let e = c .before .choice-at .ensures in
+    let h = c .before .before .loop-test .taken in
+    (rw e (choice-within (now (a .before)) (now (a .name)) (l .p) (l .a) (l .b) h), walk-room (now (a .before)) (now (a .name)) (page (now (a .out)) (a .at)) (page (l .out) (l .next)) (l .p) (l .a) (l .b) (l .inv .1) h _ e)
+
+cut-requires : tie.Need-cut-requires Inv-loop μ-loop
+cut-requires c κs = c .before .before .before .before .before .before .before .before .before .before .pre .0
+
+cut-requires-2 : tie.Need-cut-requires-2 Inv-loop μ-loop
+cut-requires-2 c κs = c .before .before .before .before .before .before .before .before .before .before .before .pre .0
+
+add-p : tie.Need-add-p Inv-loop μ-loop
+add-p c =
+    let l = c .before .before .before .before .before .before .before .before .loop in
+    let h : l .p ≤ 128 = l .inv .1 .high in
+    omega arith
+
+loop-less : tie.Need-loop-less Inv-loop μ-loop
+loop-less c =
+    let l = c .before .before .before .before .before .before .before .before .loop in
+    let a = c .before .before .before .before .before .before .before .before .before .before .before .before .args in
+    let h : l .a < length (now (a .name)) = c .before .before .before .before .before .before .before .loop-test .taken in
+    let r = cut-range (now (a .name)) (l .a) h (l .p) in
+    omega (arith, c .before .cut .ensures)
+
+loop-again : tie.Need-loop-again Inv-loop μ-loop
+loop-again c =
+    let l = c .before .before .before .before .before .before .before .before .loop in
+    let a = c .before .before .before .before .before .before .before .before .before .before .before .before .args in
+    (c .before .before .before .before .put-choice .kept .0 ∙ l .inv .0, walk-more (now (a .before)) (now (a .name)) (page (now (a .out)) (a .at)) (page (l .out) (l .next)) (l .p) (l .a) (l .b) (l .inv .1) (c .before .before .before .before .before .before .before .loop-test .taken) _ (c .before .before .before .before .before .before .choice-at .ensures) (c .before .before .before .before .put-choice .ensures) (c .before .cut .ensures) (c .cut2 .ensures))
+
+put-choice-requires-2 : tie.Need-put-choice-requires-2 Inv-loop μ-loop
+put-choice-requires-2 c κs =
+    let l = c .before .before .loop in
+    let a = c .before .before .before .before .before .before .args in
+    (tt, walk-last (now (a .before)) (now (a .name)) (page (now (a .out)) (a .at)) (page (l .out) (l .next)) (l .p) (l .a) (l .b) (l .inv .1) (c .before .loop-test .left))
+
+same-length : tie.Need-same-length Inv-loop μ-loop
+same-length c = c .before .before .put-choice2 .kept .0 ∙ c .before .before .before .before .before .loop .inv .0
+
+returns : tie.Need-returns Inv-loop μ-loop
+returns c =
+    let l = c .before .before .before .before .before .loop in
+    let a = c .before .before .before .before .before .before .before .before .before .args in
+    walk-end (now (a .before)) (now (a .name)) (page (now (a .out)) (a .at)) (page (l .out) (l .next)) (l .p) (l .a) (l .b) (l .inv .1) (c .before .before .before .before .loop-test .left) (c .before .before .put-choice2 .ensures)
+
+pub put-tokens-spec : {M : Type 1} → statement M
+put-tokens-spec =
+    tie.close
+    (tie.spec
+    Inv-loop
+    μ-loop
+    loop-holds
+    choice-at-requires
+    put-choice-requires
+    cut-requires
+    cut-requires-2
+    add-p
+    loop-less
+    loop-again
+    put-choice-requires-2
+    same-length
+    returns)

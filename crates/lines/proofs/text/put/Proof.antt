@@ -1,0 +1,27 @@
+use Rattle.lines.proofs.Pages.{part-all}
+use Rattle.lines.specs.Page.{Page, page, said, HasRoom}
+use native.Mathlib.Omega.{arith}
+use mathlib.Core.List.{List}
+use Prim.Native.Nat.{ℕ}
+use mathlib.Core.Path.{ap, sym, subst, _∙_}
+use denote.Ref.{now}
+use borrow.Author.Needs.{needs}
+use Rattle.lines.proofs.text.put.Statement.{statement}
+use Rattle.lines.proofs.text.put.Tie as tie
+
+put-part-requires : tie.Need-put-part-requires
+put-part-requires c κs =
+    let s = c .before .before .before in
+    let a = s .args in
+    ((omega arith, omega arith), subst (λ (l : List ℕ). HasRoom l (page (now (a .out)) (a .at))) (sym (part-all (now (a .text)))) (s .pre))
+
+same-length : tie.Need-same-length
+same-length c = search needs
+
+returns : tie.Need-returns
+returns c =
+    let a = c .before .before .before .before .before .before .args in
+    c .before .before .put-part .ensures ∙ ap (λ (l : List ℕ). said l (page (now (a .out)) (a .at))) (part-all (now (a .text)))
+
+pub put-spec : {M : Type 1} → statement M
+put-spec = tie.close (tie.spec put-part-requires same-length returns)
