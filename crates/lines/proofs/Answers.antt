@@ -1,13 +1,12 @@
 -- From the writer's judgement to what is printed.
-use Prim.Native.Nat.{ℕ, zero, suc, _+_, _≤_, _<_}
-use mathlib.Core.Path.{_≡_, refl, sym, ap, _∙_, subst}
-use mathlib.Core.Bool.{Bool, true, false}
+use Prim.Native.Nat.{ℕ, _+_, _≤_, _<_}
+use mathlib.Core.Path.{_≡_, refl, sym, ap, _∙_}
+use mathlib.Core.Bool.{true, false}
 use mathlib.Core.List.{List, [], _∷_, _++_}
 use native.Mathlib.Omega.{arith}
 use borrow.Author.Tests.{lt-ltb, le-ltb, le-leb, eq-eqb}
 use lib.Dec.{eqb}
 use lib.ListN.{length}
-use Rattle.base.specs.Choice.{pick}
 use Rattle.base.proofs.Choice.{pick-true, pick-false, by-test}
 use Rattle.block.specs.declared.Refusal.the-variants.{Plain, At}
 use Rattle.laying.specs.Puts.{totalOf}
@@ -17,9 +16,9 @@ use Rattle.writing.specs.declared.WriteAnswer.{WriteAnswer}
 use Rattle.writing.specs.declared.WriteAnswer.the-variants.{Written, Refused}
 use Rattle.writing.specs.Names.{namesAfter, namesOf, ended, judgedFrom}
 use Rattle.writing.specs.NamePuts.{putsOf}
-use Rattle.writing.specs.Writes.{Writing, writing, countable, Ready, laidOf, judgedOf, writeOf}
+use Rattle.writing.specs.Writes.{Writing, countable, Ready, laidOf, judgedOf, writeOf}
 use Rattle.writing.proofs.Laid.{countable-of, unended}
-use Rattle.lines.specs.Page.{Page, page, said, HasRoom}
+use Rattle.lines.specs.Page.{Page, said, HasRoom}
 use Rattle.lines.specs.Lines.{linesOf}
 use Rattle.lines.specs.Listing.{refusalText, totalsText, answerText, judgedAnswer, answerOf, listingOf, listedOf, Good}
 use Rattle.lines.proofs.Pages.{first-room, next-room, said-next, same-room, same-said}

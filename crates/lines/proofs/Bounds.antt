@@ -1,14 +1,12 @@
 -- "Its own room always suffices": how long a listing can be.
 use Prim.Native.Nat.{ℕ, zero, suc, _+_, _-_, _*_, _/_, _≤_, _<_}
-use mathlib.Core.Path.{_≡_, refl, sym, ap, _∙_, subst}
-use mathlib.Core.Bool.{Bool, true, false}
+use mathlib.Core.Path.{_≡_, refl, ap}
 use mathlib.Core.Logic.{⊎-elim}
 use mathlib.Core.List.{List, [], _∷_, _++_}
 use native.Mathlib.Omega.{arith}
 use borrow.Author.Tests.{lt-ltb, le-ltb}
 use lib.Dec.{eqb, ltb}
 use lib.ListN.{length, length-append}
-use Rattle.base.specs.Choice.{pick}
 use Rattle.base.specs.Memory.{part}
 use Rattle.base.proofs.Choice.{pick-true, pick-false, by-test}
 use Rattle.base.proofs.Memory.{length-part}
@@ -18,25 +16,20 @@ use Rattle.digits.proofs.Laws.{length-printed}
 use Rattle.tokens.specs.declared.Padded.{Padded}
 use Rattle.block.specs.declared.Refusal.{Refusal}
 use Rattle.block.specs.declared.Refusal.the-variants.{Plain, At}
-use Rattle.splitting.specs.declared.Piece.{Piece}
-use Rattle.splitting.specs.declared.Piece.the-variants.{String, Char, Digits, Digits0}
 use Rattle.splitting.specs.declared.Choice.{Choice}
-use Rattle.splitting.specs.declared.Choice.the-variants.{Itself, Delta, Delta0, Match, End}
+use Rattle.splitting.specs.declared.Choice.the-variants.{Itself, End}
 use Rattle.splitting.specs.declared.Reference.{Reference}
 use Rattle.splitting.specs.declared.Reference.the-variants.{Dup, Diff}
 use Rattle.splitting.specs.Split.{cutAt}
 use Rattle.splitting.specs.Choices.{choiceAt, choicesFrom, choicesOf, referenceOf, leansOn}
 use Rattle.splitting.proofs.Runs.{cut-range}
 use Rattle.splitting.proofs.Pieces.{piece-cases, choice-cases}
-use Rattle.writing.specs.declared.Judged.{Judged}
-use Rattle.writing.specs.declared.Judged.the-variants.{Fine, Bad}
 use Rattle.writing.specs.declared.WriteAnswer.{WriteAnswer}
 use Rattle.writing.specs.declared.WriteAnswer.the-variants.{Written, Refused}
-use Rattle.writing.specs.Names.{namesAfter, namesOf, judgedFrom}
-use Rattle.writing.specs.Writes.{countable}
+use Rattle.writing.specs.Names.{namesAfter, namesOf}
 use Rattle.lines.specs.Words.{stringWord, charWord, digitsWord, digits0Word, slash, deltaWord, delta0Word, matchWord, endWord, dupWord, diffWord, newline, refusedWord, atWord, namesWord, bytesWord}
 use Rattle.lines.specs.Lines.{stringText, charText, paddedText, pieceText, choiceText, tokensText, referenceText, nameText, lineOf, linesFrom, linesOf}
-use Rattle.lines.specs.Listing.{refusalText, totalsText, answerText, judgedAnswer, answerOf, listingOf, listedOf}
+use Rattle.lines.specs.Listing.{refusalText, totalsText, answerText, answerOf, listingOf, listedOf}
 use Rattle.lines.proofs.Texts.{tokens-end}
 
 -- Numbers

@@ -1,13 +1,12 @@
 -- Texts said one behind another: room for both is room for each, and the two are one text.
-use Prim.Native.Nat.{ℕ, _+_, _-_, _≤_, _<_}
-use mathlib.Core.Path.{_≡_, refl, sym, ap, _∙_, subst}
-use mathlib.Core.List.{List, [], _∷_, _++_}
+use Prim.Native.Nat.{ℕ, _+_, _-_}
+use mathlib.Core.Path.{_≡_, sym, ap, _∙_, subst}
+use mathlib.Core.List.{List, [], _++_}
 use native.Mathlib.Omega.{arith}
-use native.Mathlib.Nat.{add-assoc}
-use lib.ListN.{length, take, drop, length-append}
+use lib.ListN.{length, length-append}
 use lib.Seq.{take-all}
 use Rattle.base.specs.Memory.{written, part}
-use Rattle.base.proofs.Memory.{written-next, written-none, length-written, length-part}
+use Rattle.base.proofs.Memory.{written-next, written-none, length-written}
 use Rattle.lines.specs.Page.{Page, page, said, HasRoom}
 
 -- what a write leaves, and the place behind it

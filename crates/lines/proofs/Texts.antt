@@ -1,71 +1,19 @@
--- What the texts of a token, a choice and a name are, case by case.
+-- What the texts of a name's tokens, of a name and of the names are, in the forms in which the walks want them.
 use Prim.Native.Nat.{ℕ, zero, suc, _+_, _-_, _≤_, _<_}
-use mathlib.Core.Path.{_≡_, refl, sym, ap, _∙_, subst}
-use mathlib.Core.Bool.{Bool, true, false}
+use mathlib.Core.Path.{_≡_, ap, _∙_}
 use mathlib.Core.List.{List, [], _∷_, _++_, append-nil}
 use native.Mathlib.Omega.{arith}
 use borrow.Author.Tests.{lt-ltb, le-ltb}
 use lib.ListN.{length}
-use Rattle.base.specs.Memory.{part}
 use Rattle.base.proofs.Choice.{pick-true, pick-false}
 use Rattle.digits.specs.Digits.{printed}
-use Rattle.tokens.specs.declared.Padded.{Padded}
 use Rattle.spans.specs.declared.Distance.{Distance}
-use Rattle.block.specs.declared.Refusal.{Refusal}
-use Rattle.block.specs.declared.Refusal.the-variants.{Plain, At}
-use Rattle.splitting.specs.declared.Piece.{Piece}
-use Rattle.splitting.specs.declared.Piece.the-variants.{String, Char, Digits, Digits0}
-use Rattle.splitting.specs.declared.Choice.{Choice}
-use Rattle.splitting.specs.declared.Choice.the-variants.{Itself, Delta, Delta0, Match, End}
-use Rattle.splitting.specs.declared.Reference.{Reference}
+use Rattle.splitting.specs.declared.Choice.the-variants.{End}
 use Rattle.splitting.specs.declared.Reference.the-variants.{Dup, Diff}
 use Rattle.splitting.specs.Split.{cutAt}
 use Rattle.splitting.specs.Choices.{choiceAt, choicesFrom, choicesOf, referenceOf, leansOn}
-use Rattle.lines.specs.Words.{digitsWord, deltaWord, delta0Word, matchWord, endWord, dupWord, diffWord, refusedWord, atWord, newline}
-use Rattle.lines.specs.Lines.{stringText, charText, paddedText, pieceText, choiceText, tokensText, referenceText, nameText, lineOf, linesFrom, linesOf}
-use Rattle.lines.specs.Listing.{refusalText}
-
--- A token
-
-module _ (s : List ℕ) (t : Piece) where
-  pub string-text : {a e : ℕ} → t ≡ String a e → pieceText s t ≡ stringText s a e
-  unfolding pieceText
-  string-text g = rw g
-
-  pub char-text : {b : ℕ} → t ≡ Char b → pieceText s t ≡ charText b
-  unfolding pieceText
-  char-text g = rw g
-
-  pub digits-text : {n : ℕ} → t ≡ Digits n → pieceText s t ≡ digitsWord ++ printed n
-  unfolding pieceText
-  digits-text g = rw g
-
-  pub digits0-text : {x : Padded} → t ≡ Digits0 x → pieceText s t ≡ paddedText x
-  unfolding pieceText
-  digits0-text g = rw g
-
--- A choice
-
-module _ (s : List ℕ) (c : Choice) where
-  pub itself-text : {t : Piece} → c ≡ Itself t → choiceText s c ≡ pieceText s t
-  unfolding choiceText
-  itself-text g = rw g
-
-  pub delta-text : {d : ℕ} → c ≡ Delta d → choiceText s c ≡ deltaWord ++ printed d
-  unfolding choiceText
-  delta-text g = rw g
-
-  pub delta0-text : {d : ℕ} → c ≡ Delta0 d → choiceText s c ≡ delta0Word ++ printed d
-  unfolding choiceText
-  delta0-text g = rw g
-
-  pub match-text : c ≡ Match → choiceText s c ≡ matchWord
-  unfolding choiceText
-  match-text g = rw g
-
-  pub end-text : c ≡ End → choiceText s c ≡ endWord
-  unfolding choiceText
-  end-text g = rw g
+use Rattle.lines.specs.Words.{dupWord, diffWord}
+use Rattle.lines.specs.Lines.{choiceText, tokensText, referenceText, nameText, lineOf, linesFrom}
 
 -- The tokens of a name
 
@@ -103,13 +51,3 @@ lines-none n before names e = rw e
 pub lines-more : (n : ℕ) (before : List ℕ) (names : List (List ℕ)) (s : List ℕ) (ss : List (List ℕ)) → names ≡ s ∷ ss → linesFrom n before names ≡ lineOf n before s ++ linesFrom (n + 1) s ss
 unfolding linesFrom
 lines-more n before names s ss e = rw e
-
--- A refusal
-
-pub plain-text : (r : Refusal) {n : ℕ} → r ≡ Plain n → refusalText r ≡ (refusedWord ++ printed n) ++ newline
-unfolding refusalText
-plain-text r g = rw g
-
-pub at-text : (r : Refusal) {n k : ℕ} → r ≡ At n k → refusalText r ≡ (refusedWord ++ printed n) ++ ((atWord ++ printed k) ++ newline)
-unfolding refusalText
-at-text r g = rw g

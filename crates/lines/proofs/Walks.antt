@@ -1,7 +1,7 @@
 -- Walks: what is left of a name's tokens, and of the names, says what all of them say.
-use Prim.Native.Nat.{ℕ, zero, suc, _+_, _-_, _*_, _≤_, _<_}
+use Prim.Native.Nat.{ℕ, _+_, _-_, _≤_, _<_}
 use mathlib.Core.Path.{_≡_, refl, sym, ap, _∙_, subst}
-use mathlib.Core.List.{List, [], _∷_, _++_}
+use mathlib.Core.List.{List, [], _++_}
 use native.Mathlib.Omega.{arith}
 use lib.ListN.{length, drop}
 use Rattle.base.specs.Memory.{part}
@@ -12,7 +12,7 @@ use Rattle.splitting.specs.Choices.{choiceAt, choicesFrom, choicesOf}
 use Rattle.splitting.proofs.Runs.{cut-range, cut-before}
 use Rattle.writing.specs.Names.{namesAfter, namesOf, NameAt}
 use Rattle.writing.proofs.NameLaws.{names-out, part-empty}
-use Rattle.lines.specs.Page.{Page, page, said, HasRoom}
+use Rattle.lines.specs.Page.{Page, said, HasRoom}
 use Rattle.lines.specs.Lines.{choiceText, tokensText, lineOf, linesFrom, linesOf}
 use Rattle.lines.proofs.Pages.{first-room, next-room, said-next, said-none}
 use Rattle.lines.proofs.Texts.{tokens-more, tokens-end, lines-none, lines-more}

@@ -1,7 +1,6 @@
 -- "A line a name: its number, DIFF or DUP with the distance, then each token as written, its type and its text or number."
 use Prim.Native.Nat.{ℕ, _+_}
 use mathlib.Core.List.{List, [], _∷_, _++_}
-use lib.ListN.{length}
 use Rattle.base.specs.Memory.{part}
 use Rattle.digits.specs.Digits.{printed}
 use Rattle.tokens.specs.declared.Padded.{Padded}

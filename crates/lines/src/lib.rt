@@ -10,6 +10,7 @@ ghost use Rattle.writing.specs.Names.{namesOf};
 ghost use Rattle.writing.specs.NamePuts.{putsOf};
 ghost use Rattle.lines.specs.Page.{page, said, HasRoom};
 ghost use Rattle.lines.specs.Listing.{refusalText, totalsText, listedOf, Good};
+use block::Block;
 use block::Refusal;
 use laying::Pass;
 use writing::Judged;
@@ -52,7 +53,7 @@ fn total(table: &[u8; 256], input: &[u8]) -> u32
     requires { ⌜ Good (now input) ⌝ }
     ensures { λ r. ⌜ r ≡ totalOf (putsOf (namesOf (now (input .entry)))) ⌝ }
 {
-    let mut directory = [0u32; 2580];
+    let mut directory = [0u32; Block::DIRECTORY];
     let mut bytes = [0u8; 1];
     writing::puts::put_names(Pass::Total, &mut directory, &mut bytes, table, input)
 }

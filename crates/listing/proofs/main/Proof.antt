@@ -1,7 +1,6 @@
 use Rattle.lines.proofs.Bounds.{listed-short}
 use Prim.Native.Nat.{ℕ, _≤_}
-use mathlib.Core.Path.{_≡_, sym, subst, _∙_}
-use lib.ListN.{length}
+use mathlib.Core.Path.{sym, subst}
 use lib.Seq.{length-take-le}
 use native.Mathlib.Omega.{arith}
 use borrow.Author.Needs.{needs}

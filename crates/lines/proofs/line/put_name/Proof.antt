@@ -6,7 +6,7 @@ use Rattle.splitting.specs.Choices.{choicesOf}
 use Rattle.digits.specs.Digits.{printed}
 use Prim.Native.Nat.{ℕ}
 use mathlib.Core.List.{List, _++_}
-use mathlib.Core.Path.{_≡_, sym, ap, _∙_, subst}
+use mathlib.Core.Path.{sym, ap, _∙_, subst}
 use denote.Ref.{now}
 use borrow.Author.Needs.{needs}
 use Rattle.lines.proofs.line.put_name.Statement.{statement}

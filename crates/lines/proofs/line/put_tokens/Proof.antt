@@ -4,7 +4,7 @@ use Rattle.splitting.proofs.Pieces.{choice-within}
 use Rattle.lines.specs.Page.{page}
 use native.Mathlib.Omega.{arith}
 use lib.ListN.{length}
-use Prim.Native.Nat.{ℕ, _+_, _-_, _≤_, _<_}
+use Prim.Native.Nat.{_-_, _≤_, _<_}
 use denote.Ref.{now}
 use mathlib.Core.Path.{_≡_, refl, _∙_}
 use Rattle.lines.proofs.line.put_tokens.Statement.{statement}

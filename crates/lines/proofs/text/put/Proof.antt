@@ -1,5 +1,5 @@
 use Rattle.lines.proofs.Pages.{part-all}
-use Rattle.lines.specs.Page.{Page, page, said, HasRoom}
+use Rattle.lines.specs.Page.{page, said, HasRoom}
 use native.Mathlib.Omega.{arith}
 use mathlib.Core.List.{List}
 use Prim.Native.Nat.{ℕ}
