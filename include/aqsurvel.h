@@ -70,6 +70,10 @@ extern "C" {
 #define AQ_NAMES_FOR(count) ((size_t)(count) * 5u)
 #define AQ_ROWS_FOR(count) ((size_t)(count) * AQ_MOST_ROWS * 5u)
 
+/* Bytes that always suffice to write an input of so many bytes. The most is taken by the name "0": two bytes of input,
+ * and twelve for its type and distance, DIGITS0 with its width, and END. */
+#define AQ_BYTES_FOR(input_len) ((size_t)(input_len) * 6u)
+
 /* Start on a block: each cursor goes to its start, the state to (count, 0, 0, 0). Code 0: opened, value 0. */
 uint64_t aq_open(const uint8_t *bytes, size_t bytes_len, const uint32_t *directory, size_t directory_len,
                  uint32_t count, uint32_t *cursors, size_t cursors_len, uint32_t state[4]);

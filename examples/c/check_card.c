@@ -7,7 +7,7 @@
 #include <stdio.h>
 #include <string.h>
 
-enum { COUNT = 6, BYTES = 1024 };
+enum { COUNT = 6 };
 
 static const char INPUT[] = "run7:0098/1\n"
                             "run7:0098/2\n"
@@ -17,15 +17,15 @@ static const char INPUT[] = "run7:0098/1\n"
                             "run7:0100/2\n";
 
 /* The block as a reader is lent it. */
-static uint8_t bytes[BYTES];
+static uint8_t bytes[AQ_BYTES_FOR(sizeof INPUT - 1)];
 static uint32_t directory[AQ_DIRECTORY];
 static uint32_t totals[2];
 
 /* What reading keeps: sizes that suffice for any block of so many names. */
 static uint32_t cursors[AQ_CURSORS];
-static uint8_t text[COUNT * (AQ_MOST_BYTES + 1)];
-static uint32_t names[COUNT * 5];
-static uint32_t rows[COUNT * AQ_MOST_ROWS * 5];
+static uint8_t text[AQ_TEXT_FOR(COUNT)];
+static uint32_t names[AQ_NAMES_FOR(COUNT)];
+static uint32_t rows[AQ_ROWS_FOR(COUNT)];
 static uint32_t state[4];
 
 struct report {
@@ -44,7 +44,7 @@ static int refused(const char *call, uint64_t answer) {
 }
 
 static int make_block(void) {
-    uint64_t answer = aq_write((const uint8_t *)INPUT, strlen(INPUT), directory, AQ_DIRECTORY, bytes, BYTES, totals);
+    uint64_t answer = aq_write((const uint8_t *)INPUT, strlen(INPUT), directory, AQ_DIRECTORY, bytes, sizeof bytes, totals);
     if (AQ_CODE(answer) != 0)
         return refused("write", answer);
     printf("written: %u names, %u bytes\n", (unsigned)totals[0], (unsigned)totals[1]);
