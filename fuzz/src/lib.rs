@@ -2,8 +2,8 @@
 //! program; answers and all lent memory, guards included, must be the same after every call.
 //!
 //! The first byte of an input picks the target. libFuzzer sees the second program's branches
-//! (the archive isn't instrumented), and those are the same rules. The listing is a program
-//! and no function of the archive; it has no target here.
+//! (the archives aren't instrumented), and those are the same rules. The listing is reached
+//! through the exports for tests.
 
 #![deny(unsafe_code)]
 
@@ -31,9 +31,10 @@ pub unsafe extern "C" fn LLVMFuzzerTestOneInput(data: *const u8, length: usize) 
 }
 
 fn run(input: &mut Input<'_>) {
-    match input.below(3) {
+    match input.below(4) {
         0 => targets::whole_block(input),
         1 => targets::call_sequence(input),
-        _ => targets::writing(input),
+        2 => targets::writing(input),
+        _ => targets::listing(input),
     }
 }

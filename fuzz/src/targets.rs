@@ -1,10 +1,12 @@
-//! What an input can be: a block to read as a whole, a sequence of calls, or names to write.
+//! What an input can be: a block to read as a whole, a sequence of calls, names to write, or names to list.
 
 use crate::block::{block, MOST_NAMES};
 use crate::harm::harm;
 use crate::input::Input;
 use crate::pair::Pair;
+use second::boundary;
 use second::cases::script::Packed;
+use second::leaf::{self, LISTING_ROOM};
 use second::memory::{Call, Memory, Room};
 use second::refusal::DONE;
 
@@ -84,6 +86,17 @@ pub fn writing(input: &mut Input<'_>) {
         assert_eq!(read, (DONE, count), "what was written can be read");
         assert_eq!(kept_text(&pair), names, "what was read is what was written");
     }
+}
+
+/// Names listed, repeated so that an input reaches the most bytes that a listing takes.
+pub fn listing(input: &mut Input<'_>) {
+    let times = 1 + input.below(8);
+    let names = input.rest().repeat(times);
+    let mut outs = [vec![0xEE; LISTING_ROOM], vec![0xEE; LISTING_ROOM]];
+    let second = leaf::list(&names, &mut outs[0]);
+    let linked = boundary::list(&names, &mut outs[1]);
+    assert_eq!(second, linked, "the answers of the listing");
+    assert!(outs[0] == outs[1], "the buffers of the listing");
 }
 
 /// The text buffer has each name followed by byte 10, which is the writer's input.

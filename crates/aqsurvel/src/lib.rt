@@ -1,7 +1,7 @@
 // The C boundary: each call of the library behind a C function, its answer as one number.
 // A refusal of memory that a call may write leaves it as it was, state and totals too.
 ghost use mathlib.Core.Path.{_≡_};
-ghost use Rattle.aqsurvel.specs.Answers.{packed, refusalNumber, openedNumber, readNumber, verdictNumber, writtenNumber, stateIn, stateOut};
+ghost use Rattle.aqsurvel.specs.Answers.{packed, refusalNumber, readNumber, verdictNumber, stateIn, stateOut};
 ghost use Rattle.aqsurvel.specs.Calls.{opens, openCall, reads, readCall, blockCall, claimCall, writes, writeCall};
 use block::Block;
 use block::Opened;
@@ -9,7 +9,6 @@ use block::Refusal;
 use block::State;
 use claims::Verdict;
 use reading::Answer;
-use reading::Reading;
 use writing::WriteAnswer;
 
 const NO_NAME: u32 = 4294967295;

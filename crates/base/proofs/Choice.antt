@@ -1,7 +1,7 @@
--- Laws of `pick`. Those that end in `r ≡ pick ..` are in a contract's direction: what the code answers is what the definition says.
+-- Laws of `pick`, and of tests that hold together. Those that end in `r ≡ pick ..` are in a contract's direction: what the code answers is what the definition says.
 use Prim.Native.Nat.{ℕ}
-use mathlib.Core.Path.{_≡_, refl}
-use mathlib.Core.Bool.{Bool, true, false}
+use mathlib.Core.Path.{_≡_, refl, sym, _∙_}
+use mathlib.Core.Bool.{Bool, true, false, _&&_}
 use native.Mathlib.Omega.{arith}
 use Rattle.base.specs.Choice.{pick, both}
 
@@ -20,6 +20,17 @@ pick-true x y e = rw e
 pub pick-false : {A : Type 0} {b : Bool} (x y : A) → b ≡ false → pick b x y ≡ y
 unfolding pick
 pick-false x y e = rw e
+
+-- what holds of both, each where it is picked, holds of the one picked
+pub pick-holds : {A : Type 0} (P : A → Type 0) (b : Bool) (x y : A) → (b ≡ true → P x) → (b ≡ false → P y) → P (pick b x y)
+unfolding pick
+pick-holds P true x y f g = f refl
+pick-holds P false x y f g = g refl
+
+pub pick-same : {A : Type 0} (b : Bool) (x y z w : A) → (b ≡ true → x ≡ z) → (b ≡ false → y ≡ w) → pick b x y ≡ pick b z w
+unfolding pick
+pick-same true x y z w f g = f refl
+pick-same false x y z w f g = g refl
 
 pub never : false ≡ true → ⊥
 never e = let z : _≡_ {A = ℕ} 0 1 = cc in omega arith
@@ -42,7 +53,33 @@ pub both-right : {a b : Bool} → a ≡ true → b ≡ false → both a b ≡ fa
 unfolding pick
 both-right p q = rw (p, q)
 
+pub both-none : (b : Bool) → both true b ≡ b
+unfolding pick
+both-none b = refl
+
+pub both-all : (a : Bool) → both a true ≡ a
+unfolding pick
+both-all true = refl
+both-all false = refl
+
+pub both-both : (a b c : Bool) → both (both a b) c ≡ both a (both b c)
+unfolding pick
+both-both true b c = refl
+both-both false b c = refl
+
+-- the code's way to say both
+pub and-both : (a b : Bool) → a && b ≡ both a b
+unfolding pick
+and-both true b = refl
+and-both false b = refl
+
+pub and-true : (a b : Bool) → a && b ≡ true → (a ≡ true) × (b ≡ true)
+and-true a b e = both-true a b (sym (and-both a b) ∙ e)
+
 -- a test holds or not
 pub by-test : {P : Type 0} (b : Bool) → (b ≡ true → P) → (b ≡ false → P) → P
 by-test true f g = f refl
 by-test false f g = g refl
+
+pub fails : {b : Bool} → (b ≡ true → ⊥) → b ≡ false
+fails {b} n = by-test b (λ e. absurd (n e)) (λ e. e)

@@ -1,6 +1,9 @@
 pub mod Choice
 pub mod Every
-pub mod Lists
+pub mod Equal
 pub mod Memory
+pub mod Lists
+pub mod Below
+pub mod Holding
 pub mod Numbers
 pub mod Table

@@ -1,17 +1,21 @@
 -- Laws of parts and writes, in the forms in which loops and sequences of writes want them.
-use Prim.Native.Nat.{ℕ, zero, suc, _+_, _-_, _≤_, _<_}
-use mathlib.Core.Path.{_≡_, refl, sym, ap, _∙_}
+use Prim.Native.Nat.{ℕ, _+_, _-_, _≤_, _<_}
+use mathlib.Core.Path.{_≡_, sym, ap, _∙_}
 use mathlib.Core.List.{List, [], _∷_, _++_, append-assoc}
 use native.Mathlib.Omega.{arith}
 use native.Mathlib.Nat.{add-assoc}
 use native.Mathlib.Numerals.{add-one, add-two, add-three, add-four}
 use lib.ListN.{length, take, drop, set, getD, length-append, length-drop, length-take, List·getD-append}
-use lib.Seq.{paste-zero, sets, sets-eq, paste, paste-suc, take-length, length-take-le, take-at, drop-append-add, drop-drop, getD-take, getD-drop}
+use lib.Seq.{paste-zero, sets-eq, paste, paste-suc, take-length, length-take-le, take-at, drop-append-add, drop-drop, getD-take, getD-drop, getD-append-add}
 use Rattle.base.specs.Memory.{written, part}
 
 pub one-written : (l : List ℕ) (at b : ℕ) → at + 1 ≤ length l → set l at b ≡ written l at (b ∷ [])
 unfolding written
 one-written l at b h = sets-eq (b ∷ []) l at h
+
+pub four-written : (l : List ℕ) (at a b c d : ℕ) → at + 4 ≤ length l → set (set (set (set l at a) (at + 1) b) (at + 2) c) (at + 3) d ≡ written l at (a ∷ b ∷ c ∷ d ∷ [])
+unfolding written
+four-written l at a b c d h = rw (add-one, add-two, add-three) (sets-eq (a ∷ b ∷ c ∷ d ∷ []) l at h)
 
 pub five-written : (l : List ℕ) (at a b c d e : ℕ) → at + 5 ≤ length l
     → set (set (set (set (set l at a) (at + 1) b) (at + 2) c) (at + 3) d) (at + 4) e ≡ written l at (a ∷ b ∷ c ∷ d ∷ e ∷ [])
@@ -55,6 +59,29 @@ module _ (d : List ℕ) (at : ℕ) (s : List ℕ) where
       ∙ List·getD-append (take at d) s 0 i (omega arith)
       ∙ getD-take at d i 0 h
 
+  module _ (h : at ≤ length d) where
+    head-length : length (take at d ++ s) ≡ at + length s
+    head-length = length-append (take at d) s ∙ ap (λ (n : ℕ). n + length s) (length-take-le at d h)
+
+    -- where a write went stands what was written
+    pub within-written : (j : ℕ) → j < length s → getD (written d at s) (at + j) 0 ≡ getD s j 0
+    unfolding written
+    within-written j k =
+        List·getD-append (take at d ++ s) (drop (at + length s) d) 0 (at + j) (omega (arith, head-length))
+        ∙ ap (λ (n : ℕ). getD (take at d ++ s) (n + j) 0) (sym (length-take-le at d h))
+        ∙ getD-append-add (take at d) s j 0
+
+    -- above a write the list is as it was
+    pub above-written : (i : ℕ) → at + length s ≤ i → getD (written d at s) i 0 ≡ getD d i 0
+    unfolding written
+    above-written i k =
+        let r : ℕ = i - (at + length s) in
+        let e : length (take at d ++ s) + r ≡ i = omega (arith, head-length) in
+        ap (λ (n : ℕ). getD (take at d ++ s ++ drop (at + length s) d) n 0) (sym e)
+        ∙ getD-append-add (take at d ++ s) (drop (at + length s) d) r 0
+        ∙ getD-drop (at + length s) d r 0
+        ∙ ap (λ (n : ℕ). getD d n 0) (omega arith)
+
 pub length-part : (s : List ℕ) (from to : ℕ) → from ≤ to → to ≤ length s → length (part s from to) ≡ to - from
 unfolding part
 length-part s from to h k = simp (length-take, length-drop) (omega arith)
@@ -62,6 +89,10 @@ length-part s from to h k = simp (length-take, length-drop) (omega arith)
 pub getD-part : (s : List ℕ) (from to j : ℕ) → j < to - from → getD (part s from to) j 0 ≡ getD s (from + j) 0
 unfolding part
 getD-part s from to j h = rw (getD-take, getD-drop)
+
+-- an element of a part that is known
+pub part-at : (s p : List ℕ) (from to j : ℕ) → part s from to ≡ p → j < to - from → getD s (from + j) 0 ≡ getD p j 0
+part-at s p from to j e h = sym (getD-part s from to j h) ∙ ap (λ (l : List ℕ). getD l j 0) e
 
 -- a turn of the loop that copies
 pub copy-step : (s d : List ℕ) (from to at j : ℕ) → from ≤ to → to ≤ length s → at + (to - from) ≤ length d → j < to - from

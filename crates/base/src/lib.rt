@@ -1,9 +1,11 @@
-// What every layer stands on: choosing by a test, parts of lent memory, and writes to it. Nothing here knows the format.
+// What every layer stands on: choosing by a test, parts of lent memory and writes to it, and when texts are the same.
+// Nothing here knows the format.
 ghost use mathlib.Core.Path.{_≡_};
 ghost use mathlib.Core.List.{[], _∷_};
 ghost use Prim.Native.Nat.{_≤_, _+_, _-_};
 ghost use lib.ListN.{length};
 ghost use Rattle.base.specs.Memory.{written, part};
+ghost use Rattle.base.specs.Same.{same};
 
 // One byte at a place.
 pub fn put_byte(buf: &mut [u8], at: usize, b: u8)
@@ -57,4 +59,21 @@ pub fn copy_within(buf: &mut [u8], from: usize, to: usize, at: usize)
         buf[at + j] = buf[from + j];
         j += 1;
     }
+}
+
+// The lengths first: bytes that agree up to the shorter one are not the same. Then from the end, where names that follow each other differ.
+pub fn same(a: &[u8], b: &[u8]) -> bool
+    ensures { λ r. ⌜ r ≡ same (now (a .entry)) (now (b .entry)) ⌝ }
+{
+    if a.len() != b.len() {
+        return false;
+    }
+    let mut n = a.len();
+    while 0 < n {
+        n -= 1;
+        if a[n] != b[n] {
+            return false;
+        }
+    }
+    true
 }

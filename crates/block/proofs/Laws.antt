@@ -1,5 +1,5 @@
 -- Laws of a block's directory and cursors: what the judgements tell of each span, and what opening leaves.
-use Prim.Native.Nat.{ℕ, zero, suc, _+_, _*_, _≤_, _<_}
+use Prim.Native.Nat.{ℕ, zero, suc, _+_, _*_, _^_, _≤_, _<_}
 use mathlib.Core.Path.{_≡_, refl, sym, ap, _∙_}
 use mathlib.Core.Bool.{Bool, true, false, not}
 use mathlib.Core.List.{List, _++_, append-nil}
@@ -7,20 +7,22 @@ use mathlib.Core.Logic.{⊎-elim}
 use native.Mathlib.Omega.{arith}
 use native.Mathlib.Nat.{add-zero, zero-add}
 use native.Mathlib.Numerals.{add-one}
-use borrow.Author.Tests.{leb-true, eqb-true, eqb-false, le-leb, eq-eqb, lt-ltb, le-ltb}
+use borrow.Author.Tests.{leb-true, eqb-true, eqb-false, le-leb, eq-eqb, ne-eqb, lt-ltb, le-ltb}
 use lib.Dec.{leb, eqb}
 use lib.ListN.{length, drop, getD, set, length-set}
 use lib.Seq.{getD-set-same, getD-set-other, paste, paste-suc, take-all, drop-length}
-use Rattle.base.specs.Choice.{both}
-use Rattle.base.proofs.Choice.{both-true, both-of, took, left, by-test}
+use Rattle.base.specs.Choice.{pick, both}
+use Rattle.base.proofs.Choice.{both-true, both-of, both-left, both-right, took, left, pick-true, by-test}
 use Rattle.base.proofs.Numbers.{lt-or-ge}
-use Rattle.block.specs.Block.{spanOf, startOf, endOf, cursorOf, spanSound, soundFrom, sound, inside, allInside, atEnd, allAtEnd, startsFrom, starts, Opening, opening, openOf}
+use Rattle.block.specs.Block.{spanOf, startOf, endOf, cursorOf, spanSound, soundFrom, sound, inside, allInside, verdict, verdictOf, atEnd, allAtEnd, startsFrom, starts, Opening, opening, openOf}
 use Rattle.block.specs.declared.State.{State}
 use Rattle.block.specs.declared.Opened.{Opened}
 use Rattle.block.specs.declared.Opened.the-variants as answer
 use Rattle.block.specs.declared.Refusal.the-variants.{Plain}
+use Rattle.block.specs.declared.Verdict.{Verdict}
+use Rattle.block.specs.declared.Verdict.the-variants.{Unsound, Outside, Inside}
 use Rattle.block.specs.Open.{Open}
-use Rattle.block.proofs.Every.{every-each, each-every, every-same}
+use Rattle.base.proofs.Every.{every-each, each-every, every-same}
 
 -- a position and a stream have a span of their own
 pub span-below : (p s : ℕ) → p ≤ 128 → s ≤ 9 → spanOf p s < 1290
@@ -35,21 +37,18 @@ pub span-stream : (p s q t : ℕ) → s ≤ 9 → t ≤ 9 → spanOf p s ≡ spa
 unfolding spanOf
 span-stream p s q t h k e = omega arith
 
--- more bytes than an end can count bind no end
-pub sound-most : (m n : ℕ) (dir : List ℕ) → ((k : ℕ) → getD dir k 0 ≤ m) → m ≤ n → soundFrom m dir 0 1290 ≡ soundFrom n dir 0 1290
-unfolding spanSound endOf
-sound-most m n dir w h =
-    every-same _ _ 1290 0
-    (λ j a b.
-    ap (λ (t : Bool). both (leb (startOf dir j) (endOf dir j)) t)
-    (le-leb (endOf dir j) m (w (2 * j + 1)) ∙ sym (le-leb (endOf dir j) n (omega (arith, w (2 * j + 1))))))
-
 two-le : (a b c d : ℕ) → both (leb a b) (leb c d) ≡ true → (a ≤ b) × (c ≤ d)
 two-le a b c d t = let e = both-true (leb a b) (leb c d) t in (leb-true a b (e .0), leb-true c d (e .1))
 
 span-sound : (len : ℕ) (dir : List ℕ) (i : ℕ) → spanSound len dir i ≡ true → (startOf dir i ≤ endOf dir i) × (endOf dir i ≤ len)
 unfolding spanSound
-span-sound len dir i = two-le (startOf dir i) (endOf dir i) (endOf dir i) len
+span-sound len dir i t = let e = two-le (startOf dir i) (endOf dir i) (endOf dir i) _ t in (e .0, omega (arith, e .1))
+
+-- bounds that tell ends of 32 bits alike
+pub sound-reach : (m n : ℕ) (dir : List ℕ) → ((k : ℕ) → getD dir k 0 < 2 ^ 32) → ((end : ℕ) → end < 2 ^ 32 → leb end m ≡ leb end n)
+    → soundFrom m dir 0 1290 ≡ soundFrom n dir 0 1290
+unfolding spanSound endOf
+sound-reach m n dir w h = every-same (spanSound m dir) (spanSound n dir) 1290 0 (λ j a b. rw (h (getD dir (2 * j + 1) 0) (w (2 * j + 1))))
 
 cursor-inside : (dir cur : List ℕ) (i : ℕ) → inside dir cur i ≡ true → (startOf dir i ≤ cursorOf cur i) × (cursorOf cur i ≤ endOf dir i)
 unfolding inside
@@ -57,6 +56,18 @@ cursor-inside dir cur i = two-le (startOf dir i) (cursorOf cur i) (cursorOf cur 
 
 module _ (len : ℕ) (dir cur : List ℕ) where
   -- a sound directory, test by test
+  pub not-directory : (length dir ≡ 2580 → ⊥) → sound len dir cur ≡ false
+  unfolding sound
+  not-directory d = both-left _ (ne-eqb _ _ d)
+
+  pub not-table : length dir ≡ 2580 → (length cur ≡ 1290 → ⊥) → sound len dir cur ≡ false
+  unfolding sound
+  not-table d c = both-right (eq-eqb _ _ d) (both-left _ (ne-eqb _ _ c))
+
+  pub sound-is : length dir ≡ 2580 → length cur ≡ 1290 → soundFrom len dir 0 1290 ≡ sound len dir cur
+  unfolding sound
+  sound-is d c = took _ _ (eq-eqb _ _ d) (took _ _ (eq-eqb _ _ c) refl)
+
   pub sound-directory : sound len dir cur ≡ true → length dir ≡ 2580
   unfolding sound
   sound-directory t = eqb-true _ _ (both-true (eqb (length dir) 2580) (both (eqb (length cur) 1290) (soundFrom len dir 0 1290)) t .0)
@@ -108,6 +119,50 @@ module _ (dir cur : List ℕ) where
   pub each-at-end : ((i : ℕ) → i < 1290 → cursorOf cur i ≡ endOf dir i) → allAtEnd dir cur ≡ true
   unfolding allAtEnd atEnd
   each-at-end e = each-every (atEnd dir cur) 1290 0 (λ j h k. eq-eqb _ _ (e j (omega arith)))
+
+-- what a verdict says of each judgement
+saysSound : Verdict → Bool
+saysSound Unsound = false
+saysSound Outside = true
+saysSound Inside = true
+
+saysInside : Verdict → Bool
+saysInside Unsound = false
+saysInside Outside = false
+saysInside Inside = true
+
+says-sound : (a b : Bool) → a ≡ saysSound (verdict a b)
+unfolding pick saysSound
+says-sound true true = refl
+says-sound true false = refl
+says-sound false b = refl
+
+says-inside : (a b : Bool) → both a b ≡ saysInside (verdict a b)
+unfolding pick saysInside
+says-inside true true = refl
+says-inside true false = refl
+says-inside false b = refl
+
+module _ (len : ℕ) (dir cur : List ℕ) where
+  judged-sound : {v : Verdict} → verdictOf len dir cur ≡ v → sound len dir cur ≡ saysSound v
+  unfolding verdictOf
+  judged-sound e = says-sound (sound len dir cur) (allInside dir cur) ∙ ap saysSound e
+
+  judged-both : {v : Verdict} → verdictOf len dir cur ≡ v → both (sound len dir cur) (allInside dir cur) ≡ saysInside v
+  unfolding verdictOf
+  judged-both e = says-inside (sound len dir cur) (allInside dir cur) ∙ ap saysInside e
+
+  pub verdict-unsound : verdictOf len dir cur ≡ Unsound → sound len dir cur ≡ false
+  unfolding saysSound
+  verdict-unsound e = judged-sound e
+
+  pub verdict-outside : verdictOf len dir cur ≡ Outside → (sound len dir cur ≡ true) × (allInside dir cur ≡ false)
+  unfolding saysSound saysInside
+  verdict-outside e = (judged-sound e, sym (pick-true (allInside dir cur) false (judged-sound e)) ∙ judged-both e)
+
+  pub verdict-inside : verdictOf len dir cur ≡ Inside → (sound len dir cur ≡ true) × (allInside dir cur ≡ true)
+  unfolding saysInside
+  verdict-inside e = both-true (sound len dir cur) (allInside dir cur) (judged-both e)
 
 module _ (bytes dir cur : List ℕ) where
   pub judged-open : sound (length bytes) dir cur ≡ true → allInside dir cur ≡ true → Open bytes dir cur

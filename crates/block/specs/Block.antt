@@ -1,14 +1,17 @@
 -- A block's directory and cursors, the judgement of them (1, 13, 10), and opening.
 use Prim.Native.Nat.{ℕ, zero, suc, _+_, _*_}
-use mathlib.Core.Bool.{Bool, true, not}
+use mathlib.Core.Bool.{Bool, not}
 use mathlib.Core.List.{List, [], _∷_}
 use lib.ListN.{length, getD}
 use lib.Dec.{ltb, leb, eqb}
 use Rattle.base.specs.Choice.{pick, both}
+use Rattle.base.specs.Every.{each}
 use Rattle.block.specs.declared.Opened.{Opened}
 use Rattle.block.specs.declared.Opened.the-variants as answer
 use Rattle.block.specs.declared.Refusal.the-variants.{Plain}
 use Rattle.block.specs.declared.State.{State}
+use Rattle.block.specs.declared.Verdict.{Verdict}
+use Rattle.block.specs.declared.Verdict.the-variants.{Unsound, Outside, Inside}
 
 -- ten spans to a position, each a start and an end
 unfoldable pub spanOf : ℕ → ℕ → ℕ
@@ -24,17 +27,12 @@ endOf dir i = getD dir (2 * i + 1) 0
 unfoldable pub cursorOf : List ℕ → ℕ → ℕ
 cursorOf cur i = getD cur i 0
 
--- a test holds of each of n spans from i on
-unfoldable pub every : (ℕ → Bool) → ℕ → ℕ → Bool
-every f i zero = true
-every f i (suc n) = both (f i) (every f (i + 1) n)
-
 -- no start above its end, no end above the bytes
 unfoldable pub spanSound : ℕ → List ℕ → ℕ → Bool
 spanSound len dir i = both (leb (startOf dir i) (endOf dir i)) (leb (endOf dir i) len)
 
 abbrev pub soundFrom : ℕ → List ℕ → ℕ → ℕ → Bool
-soundFrom len dir = every (spanSound len dir)
+soundFrom len dir = each (spanSound len dir)
 
 -- directory and cursor table of the right length, every span sound: 1 is given where this is false
 unfoldable pub sound : ℕ → List ℕ → List ℕ → Bool
@@ -45,18 +43,25 @@ unfoldable pub inside : List ℕ → List ℕ → ℕ → Bool
 inside dir cur i = both (leb (startOf dir i) (cursorOf cur i)) (leb (cursorOf cur i) (endOf dir i))
 
 abbrev pub insideFrom : List ℕ → List ℕ → ℕ → ℕ → Bool
-insideFrom dir cur = every (inside dir cur)
+insideFrom dir cur = each (inside dir cur)
 
 -- no cursor outside its span: 13 is given where this is false
 unfoldable pub allInside : List ℕ → List ℕ → Bool
 allInside dir cur = insideFrom dir cur 0 1290
+
+-- 1 comes before 13
+abbrev pub verdict : Bool → Bool → Verdict
+verdict isSound areInside = pick isSound (pick areInside Inside Outside) Unsound
+
+unfoldable pub verdictOf : ℕ → List ℕ → List ℕ → Verdict
+verdictOf len dir cur = verdict (sound len dir cur) (allInside dir cur)
 
 -- a cursor that is not short of its end
 unfoldable pub atEnd : List ℕ → List ℕ → ℕ → Bool
 atEnd dir cur i = eqb (cursorOf cur i) (endOf dir i)
 
 abbrev pub atEndFrom : List ℕ → List ℕ → ℕ → ℕ → Bool
-atEndFrom dir cur = every (atEnd dir cur)
+atEndFrom dir cur = each (atEnd dir cur)
 
 -- with all names read, "done" where this is true and 10 where not
 unfoldable pub allAtEnd : List ℕ → List ℕ → Bool

@@ -1,9 +1,10 @@
 // The block: a lent run of bytes, a directory of spans with a cursor each, and a count of names.
 // Its limits, where its spans and cursors are, the judgement of both, and opening.
 ghost use mathlib.Core.Path.{_≡_};
-ghost use Prim.Native.Nat.{_≤_, _<_, _+_, _*_};
+ghost use Prim.Native.Nat.{ℕ, _≤_, _<_, _+_, _*_, _^_};
+ghost use lib.Dec.{leb};
 ghost use lib.ListN.{length};
-ghost use Rattle.block.specs.Block.{spanOf, startOf, endOf, cursorOf, soundFrom, sound, allInside, allAtEnd, starts, opening, openOf};
+ghost use Rattle.block.specs.Block.{spanOf, startOf, endOf, cursorOf, soundFrom, sound, allInside, verdict, verdictOf, allAtEnd, starts, opening, openOf};
 use spans::Cursor;
 use spans::Position;
 
@@ -30,6 +31,13 @@ pub enum Refusal {
 pub enum Opened {
     Fresh(State),
     Refused(Refusal),
+}
+
+// A directory that meets refusal 1; a sound one with a cursor outside its span, refusal 13; or neither.
+pub enum Verdict {
+    Unsound,
+    Outside,
+    Inside,
 }
 
 pub fn span_of(p: Position, stream: u32) -> usize
@@ -60,6 +68,14 @@ pub fn cursor_of(cursors: &[u32], span: usize) -> Cursor
     Cursor(cursors[span])
 }
 
+// An end has 32 bits, and numbers of one width are judged faster.
+fn reach(bytes: &[u8]) -> u32
+    ensures { λ r. ⌜ ((end : ℕ) → end < 2 ^ 32 → leb end r ≡ leb end (length (now (bytes .entry)))) ⌝ }
+{
+    let n = bytes.len();
+    if n < 4294967295 { n as u32 } else { 4294967295 }
+}
+
 // No way out inside the loop, here and below, so that several spans are judged at a time.
 fn spans_sound(n: u32, dir: &[u32]) -> bool
     requires { ⌜ length (now dir) ≡ 2580 ⌝ }
@@ -77,7 +93,7 @@ fn spans_sound(n: u32, dir: &[u32]) -> bool
 }
 
 // Refusal 1 is given where this is false.
-pub fn sound(bytes: &[u8], dir: &[u32], cursors: &[u32]) -> bool
+fn sound(bytes: &[u8], dir: &[u32], cursors: &[u32]) -> bool
     ensures { λ r. ⌜ r ≡ sound (length (now (bytes .entry))) (now (dir .entry)) (now (cursors .entry)) ⌝ }
 {
     if dir.len() != Block::DIRECTORY {
@@ -86,30 +102,46 @@ pub fn sound(bytes: &[u8], dir: &[u32], cursors: &[u32]) -> bool
     if cursors.len() != Block::SPANS {
         return false;
     }
-    // An end has 32 bits, and numbers of one width are judged faster.
-    let n = bytes.len();
-    if n < 4294967295 {
-        spans_sound(n as u32, dir)
-    } else {
-        spans_sound(4294967295, dir)
-    }
+    spans_sound(reach(bytes), dir)
 }
 
-// Refusal 13 is given where this is false.
-pub fn inside(dir: &[u32], cursors: &[u32]) -> bool
+// Both in one pass over each table.
+fn judge_spans(n: u32, dir: &[u32], cursors: &[u32]) -> Verdict
     requires { ⌜ (length (now dir) ≡ 2580) × (length (now cursors) ≡ 1290) ⌝ }
-    ensures { λ r. ⌜ r ≡ allInside (now (dir .entry)) (now (cursors .entry)) ⌝ }
+    ensures { λ r. ⌜ r ≡ verdict (soundFrom n (now (dir .entry)) 0 1290) (allInside (now (dir .entry)) (now (cursors .entry))) ⌝ }
 {
-    let mut ok = true;
+    let mut sound = true;
+    let mut inside = true;
     let mut i: usize = 0;
     while i < Block::SPANS {
         let start = dir[2 * i];
         let end = dir[2 * i + 1];
         let cursor = cursors[i];
-        ok = ok & (start <= cursor) & (cursor <= end);
+        sound = sound & (start <= end) & (end <= n);
+        inside = inside & (start <= cursor) & (cursor <= end);
         i += 1;
     }
-    ok
+    if !sound {
+        return Verdict::Unsound;
+    }
+    if inside {
+        Verdict::Inside
+    } else {
+        Verdict::Outside
+    }
+}
+
+// Refusals 1 and 13, in this order.
+pub fn judge(bytes: &[u8], dir: &[u32], cursors: &[u32]) -> Verdict
+    ensures { λ r. ⌜ r ≡ verdictOf (length (now (bytes .entry))) (now (dir .entry)) (now (cursors .entry)) ⌝ }
+{
+    if dir.len() != Block::DIRECTORY {
+        return Verdict::Unsound;
+    }
+    if cursors.len() != Block::SPANS {
+        return Verdict::Unsound;
+    }
+    judge_spans(reach(bytes), dir, cursors)
 }
 
 // With all names read, "done" where this is true and refusal 10 where not.

@@ -1,12 +1,14 @@
 -- What a claim is answered, and when: each answer has one cause, and each cause one answer.
 use Prim.Native.Nat.{ℕ, _≤_, _<_}
 use mathlib.Core.Path.{_≡_, refl, sym, _∙_, subst}
-use mathlib.Core.Bool.{Bool, true, false}
+use mathlib.Core.Bool.{true, false}
 use mathlib.Core.List.{List}
 use borrow.Author.Tests.{lt-ltb, le-ltb, ltb-true, ltb-false}
 use lib.Dec.{ltb}
 use lib.ListN.{length}
-use Rattle.base.proofs.Choice.{took, left, by-test, never}
+use Rattle.base.specs.Same.{same}
+use Rattle.base.proofs.Choice.{took, left, by-test, never, fails}
+use Rattle.base.proofs.Equal.{same-equal, equal-same, same-differ, differ-same}
 use Rattle.block.specs.declared.State.{State}
 use Rattle.block.specs.declared.Refusal.the-variants as refusal
 use Rattle.kept.specs.declared.Entry.{Entry}
@@ -16,11 +18,7 @@ use Rattle.kept.specs.Inside.{TextCounted, TextInside}
 use Rattle.kept.proofs.Laws.{text-counted, text-counts-of, text-inside, entry-text-of}
 use Rattle.claims.specs.declared.Verdict.{Verdict}
 use Rattle.claims.specs.declared.Verdict.the-variants.{Confirmed, Denied, Refused}
-use Rattle.claims.specs.Claims.{same, nameText, claimOf}
-use Rattle.claims.proofs.Bytes.{same-equal, equal-same, same-differ, differ-same}
-
-fails : {b : Bool} → (b ≡ true → ⊥) → b ≡ false
-fails {b} n = by-test b (λ e. absurd (n e)) (λ e. e)
+use Rattle.claims.specs.Claims.{nameText, claimOf}
 
 module _ (number : ℕ) (claim : List ℕ) (s : State) (text names : List ℕ) where
   -- by the tests, in their order

@@ -1,10 +1,10 @@
 -- A claim: 13 for the counts, 11, 13 for that entry's text, then yes or no.
 use Prim.Native.Nat.{ℕ, _+_}
-use mathlib.Core.Bool.{Bool, true, false}
-use mathlib.Core.List.{List, [], _∷_}
-use lib.Dec.{ltb, eqb}
+use mathlib.Core.List.{List}
+use lib.Dec.{ltb}
 use lib.ListN.{length}
-use Rattle.base.specs.Choice.{pick, both}
+use Rattle.base.specs.Choice.{pick}
+use Rattle.base.specs.Same.{same}
 use Rattle.base.specs.Memory.{part}
 use Rattle.block.specs.declared.State.{State}
 use Rattle.block.specs.declared.Refusal.the-variants as refusal
@@ -13,13 +13,6 @@ use Rattle.kept.specs.Tables.{room, entryAt}
 use Rattle.kept.specs.Judgement.{textCounts, entryText}
 use Rattle.claims.specs.declared.Verdict.{Verdict}
 use Rattle.claims.specs.declared.Verdict.the-variants.{Confirmed, Denied, Refused}
-
--- all of the bytes and nothing else
-unfoldable pub same : List ℕ → List ℕ → Bool
-same [] [] = true
-same [] (b ∷ t) = false
-same (a ∷ s) [] = false
-same (a ∷ s) (b ∷ t) = both (eqb a b) (same s t)
 
 -- the name that an entry keeps
 unfoldable pub nameText : List ℕ → Entry → List ℕ

@@ -1,10 +1,7 @@
 // Claims: does a name that the card returned have all the bytes of the name that was read, and nothing else?
 // A claim is handed no row table, judges nothing about rows and changes nothing.
 ghost use mathlib.Core.Path.{_≡_};
-ghost use Prim.Native.Nat.{_≤_};
-ghost use lib.ListN.{length};
-ghost use Rattle.base.specs.Memory.{part};
-ghost use Rattle.claims.specs.Claims.{same, claimOf};
+ghost use Rattle.claims.specs.Claims.{claimOf};
 use block::Refusal;
 use block::State;
 use kept::judgement;
@@ -14,23 +11,6 @@ pub enum Verdict {
     Confirmed,
     Denied,
     Refused(Refusal),
-}
-
-// The lengths first: bytes that agree up to the shorter one are not the same.
-fn same_bytes(claimed: &[u8], text: &[u8], start: usize, end: usize) -> bool
-    requires { ⌜ (start ≤ end) × (end ≤ length (now text)) ⌝ }
-    ensures { λ r. ⌜ r ≡ same (now (claimed .entry)) (part (now (text .entry)) start end) ⌝ }
-{
-    if claimed.len() != end - start {
-        return false;
-    }
-    let mut ok = true;
-    let mut i: usize = 0;
-    while i < claimed.len() {
-        ok = ok & (claimed[i] == text[start + i]);
-        i += 1;
-    }
-    ok
 }
 
 pub fn claim(number: u32, claimed: &[u8], state: State, text: &[u8], names: &[u32]) -> Verdict
@@ -48,7 +28,7 @@ pub fn claim(number: u32, claimed: &[u8], state: State, text: &[u8], names: &[u3
     }
     let start = e.start as usize;
     let end = start + e.length as usize;
-    if same_bytes(claimed, text, start, end) {
+    if base::same(claimed, &text[start..end]) {
         Verdict::Confirmed
     } else {
         Verdict::Denied

@@ -4,12 +4,13 @@ use mathlib.Core.Path.{_≡_, sym, ap, _∙_}
 use mathlib.Core.Bool.{true, false}
 use mathlib.Core.List.{List, [], _∷_, _++_}
 use native.Mathlib.Omega.{arith}
+use borrow.Author.Needs.{needs}
 use borrow.Author.Tests.{le-leb}
-use lib.Dec.{T, leb}
+use lib.Dec.{T}
 use lib.ListN.{length, getD}
 use Rattle.base.specs.Choice.{pick, both}
 use Rattle.base.specs.Memory.{part}
-use Rattle.base.proofs.Choice.{pick-true, pick-false, both-of, both-left, by-test, never}
+use Rattle.base.proofs.Choice.{pick-true, pick-false, both-left, by-test, never}
 use Rattle.base.proofs.Table.{rule, follows}
 use Rattle.digits.specs.Digits.{isDigit, allDigits, padded, printed}
 use Rattle.base.proofs.Every.{every-none, every-one, every-append, every-part, every-weaker}
@@ -20,7 +21,7 @@ use Rattle.classes.specs.Classes.{isAllowed, allAllowed, classOf, classT
 -- the test of the whole table, computed
 whole : T (follows classOf 0 classTable)
 unfolding classTable classOf isAllowed isDigit pick
-whole = tt
+whole = search needs
 
 -- and so the class of each byte stands at its place
 pub class-at : (b : ℕ) → b < 256 → getD classTable b 0 ≡ classOf b
@@ -30,12 +31,12 @@ class-at b h = rule classOf classTable whole b h
 -- Digits and allowed bytes
 
 pub digit-allowed : (b : ℕ) → isDigit b ≡ true → isAllowed b ≡ true
-unfolding isAllowed
+unfolding isAllowed pick
 digit-allowed b e =
     let r : (48 ≤ b) × (b ≤ 57) = digit-range b e in
     let low : 33 ≤ b = omega arith in
     let high : b ≤ 63 = omega arith in
-    pick-true true (both (leb 65 b) (leb b 126)) (both-of (le-leb _ _ low) (le-leb _ _ high))
+    rw (le-leb _ _ low, le-leb _ _ high)
 
 pub class-digit : (b : ℕ) → isDigit b ≡ true → classOf b ≡ 2
 unfolding classOf
@@ -84,13 +85,18 @@ allowed-printed n = allowed-digits (printed n) (all-digits-printed n)
 pub allowed-padded : (n w : ℕ) → allAllowed (padded n w) ≡ true
 allowed-padded n w = allowed-digits (padded n w) (all-digits-padded n w)
 
--- a turn of the loop over a part
-module _ (s : List ℕ) (i to : ℕ) (h : i < to) (k : to ≤ length s) where
-  pub barred-here : classOf (getD s i 0) ≡ 0 → allAllowed (part s i to) ≡ false
-  barred-here e = every-part isAllowed s i to h k ∙ both-left (allAllowed (part s (i + 1) to)) (barred-class (getD s i 0) e)
+-- what is left of a part decides as the whole does
+pub record Passed (s : List ℕ) (from to i : ℕ) : Type 0 where
+  pub within : i ≤ to
+  pub rest : allAllowed (part s i to) ≡ allAllowed (part s from to)
 
-  pub allowed-here : (classOf (getD s i 0) ≡ 0 → ⊥) → allAllowed (part s i to) ≡ allAllowed (part s (i + 1) to)
-  allowed-here f = every-part isAllowed s i to h k ∙ pick-true (allAllowed (part s (i + 1) to)) false (allowed-class (getD s i 0) f)
+-- a turn of a loop over a part
+module _ (s : List ℕ) (i to : ℕ) (h : i < to) (k : to ≤ length s) where
+  pub barred-here : isAllowed (getD s i 0) ≡ false → allAllowed (part s i to) ≡ false
+  barred-here e = every-part isAllowed s i to h k ∙ both-left (allAllowed (part s (i + 1) to)) e
+
+  pub allowed-here : isAllowed (getD s i 0) ≡ true → allAllowed (part s i to) ≡ allAllowed (part s (i + 1) to)
+  allowed-here e = every-part isAllowed s i to h k ∙ pick-true (allAllowed (part s (i + 1) to)) false e
 
 pub allowed-none : (s : List ℕ) (i to : ℕ) → to ≤ i → allAllowed (part s i to) ≡ true
 allowed-none s i to h = ap allAllowed (part-none s i to h) ∙ every-none isAllowed

@@ -1,10 +1,13 @@
 // Digit or not, and allowed by SAM or not: a property of each of the 256 byte values, tabled.
 // A caller makes the table once and lends it, since a constant is built anew wherever it is read.
+// Reading asks only what SAM allows and holds no table: it compares.
 ghost use mathlib.Core.Path.{_≡_};
 ghost use Prim.Native.Nat.{_≤_};
+ghost use lib.Dec.{leb};
 ghost use lib.ListN.{length};
+ghost use Rattle.base.specs.Choice.{both};
 ghost use Rattle.base.specs.Memory.{part};
-ghost use Rattle.classes.specs.Classes.{classOf, classTable, allAllowed};
+ghost use Rattle.classes.specs.Classes.{isAllowed, classOf, classTable, allAllowed};
 
 mod entries;
 
@@ -45,6 +48,39 @@ pub fn allowed(table: &[u8; 256], bytes: &[u8], from: usize, to: usize) -> bool
             return false;
         }
         i += 1;
+    }
+    true
+}
+
+fn between(low: u8, b: u8, high: u8) -> bool
+    ensures { λ r. ⌜ r ≡ both (leb low b) (leb b high) ⌝ }
+{
+    if low <= b { b <= high } else { false }
+}
+
+// SAM's rule by comparison.
+pub fn is_allowed(b: u8) -> bool
+    ensures { λ r. ⌜ r ≡ isAllowed b ⌝ }
+{
+    if between(33, b, 63) {
+        true
+    } else {
+        between(65, b, 126)
+    }
+}
+
+// Every byte of a part is one that SAM allows, by comparison.
+pub fn all_allowed(bytes: &[u8], from: usize, to: usize) -> bool
+    requires { ⌜ (from ≤ to) × (to ≤ length (now bytes)) ⌝ }
+    ensures { λ r. ⌜ r ≡ allAllowed (part (now (bytes .entry)) from to) ⌝ }
+{
+    let mut i = from;
+    while i < to {
+        if is_allowed(bytes[i]) {
+            i += 1;
+        } else {
+            return false;
+        }
     }
     true
 }

@@ -7,10 +7,10 @@ use native.Mathlib.Omega.{arith}
 use Rattle.base.specs.Choice.{pick}
 use Rattle.base.specs.Memory.{part, written}
 use Rattle.digits.specs.Digits.{low, padded, countWithin, digitCount, printed, fitsWidth, isDigit, valueFrom, valueOf}
-use Rattle.base.specs.Every.{every as everyByte}
+use Rattle.base.specs.Every.{every, numbers}
 use Rattle.classes.specs.Classes.{isAllowed}
 use Rattle.spans.specs.Spans.{byteAt, four, fourAt}
-use Rattle.block.specs.Block.{spanOf, endOf, cursorOf, every}
+use Rattle.block.specs.Block.{spanOf, endOf, cursorOf}
 use Rattle.tokens.specs.Types.{typeOf}
 use Rattle.tokens.specs.Tokens.{bytesOf, kindOf, numberOf, widthOf, lengthOf, rowOf}
 use Rattle.kept.specs.Tables.{room, entryAt, rowAt}
@@ -21,7 +21,7 @@ use Rattle.names.specs.Names.{past, typeIn, valuePast, grown, ended, printable,
 use Rattle.reading.specs.Reads.{atName, dupHead, diffHead, typedHead, headOf, roomFor, kept, keepOf, headPast, dupOf, namedOf, diffOf, none, entryBack, headedOf, nextOf}
 use Rattle.splitting.specs.Split.{runClass, runEnd, runLimit, runAt, cutAt, textPiece, numberPiece, pieceAt}
 use Rattle.splitting.specs.Choices.{riseOf, byRise, leanDigits, lean, choiceAt, choicesFrom, choicesOf, anew, leansOn}
-use Rattle.demands.specs.Bench.{cases, tokenCases, blockCases, writingCases}
+use Rattle.demands.specs.Bench.{refusedAt, typed, cases, tokenCases, blockCases, writingCases}
 use Rattle.demands.specs.Runs.{left}
 use Rattle.demands.specs.Cases.{Case, Hold, shown, Stream, bytesIn, dirFrom, inDirectory, Told, told, readOver}
 use Rattle.demands.proofs.Lemmas.Blocks.{curFrom, nexts, quick, over}
@@ -51,11 +51,11 @@ unfolding pick low padded countWithin digitCount printed fitsWidth bytesOf padde
 tokens-hold = (refl, (refl, (refl, (refl, (refl, tt)))))
 
 blocks-hold : Hold blockCases
-unfolding pick part written everyByte isAllowed byteAt four fourAt spanOf endOf cursorOf every typeOf bytesOf kindOf numberOf widthOf lengthOf rowOf room entryAt rowAt entryText entryRows rowKind rowFits rowsFit earlierFits byteIn fourIn charStep hasRow matchAt valueStep carries barred typedStep stepAt past typeIn valuePast grown ended printable onward nameFrom nameOf atName dupHead diffHead typedHead headOf roomFor kept keepOf headPast dupOf namedOf diffOf none entryBack headedOf nextOf told quick nexts left bytesIn dirFrom curFrom inDirectory
+unfolding pick part written every numbers isAllowed byteAt four fourAt spanOf endOf cursorOf typeOf bytesOf kindOf numberOf widthOf lengthOf rowOf room entryAt rowAt entryText entryRows rowKind rowFits rowsFit earlierFits byteIn fourIn charStep hasRow matchAt valueStep carries barred typedStep stepAt past typeIn valuePast grown ended printable onward nameFrom nameOf atName dupHead diffHead typedHead headOf roomFor kept keepOf headPast dupOf namedOf diffOf none entryBack headedOf nextOf told quick nexts left bytesIn dirFrom curFrom inDirectory
 blocks-hold = (
   three (first _ _ refl refl) (first _ _ refl refl) (first _ _ refl refl),
   (
-    first _ _ refl refl,
+    rw (first (typed (13 ∷ []) [] []) (refusedAt 5 0 []) refl refl),
     (
       two (fourth-read _ _ refl refl) (fourth-read _ _ refl refl),
       (first _ _ refl refl, (four-of (first _ _ refl refl) (first _ _ refl refl) (first _ _ refl refl) (first _ _ refl refl), tt)),

@@ -3,7 +3,6 @@
 use Prim.Native.Nat.{ℕ}
 use mathlib.Core.Path.{_≡_, refl, sym, ap, _∙_, subst}
 use mathlib.Core.List.{List, [], _∷_}
-use lib.ListN.{length}
 use Rattle.block.specs.declared.Refusal.{Refusal}
 use Rattle.block.specs.declared.State.{State}
 use Rattle.block.specs.declared.Opened.the-variants as opened
@@ -17,7 +16,7 @@ use Rattle.claims.specs.declared.Verdict.{Verdict}
 use Rattle.claims.specs.Claims.{claimOf}
 use Rattle.writing.specs.declared.WriteAnswer.the-variants as written
 use Rattle.writing.specs.Writes.{Writing, writeOf}
-use Rattle.demands.specs.Runs.{Lent, left, read, Fresh, Call, reading, claiming, after, run}
+use Rattle.demands.specs.Runs.{Lent, left, Fresh, Call, after, run}
 use Rattle.demands.specs.Right.{Demand3}
 use Rattle.demands.specs.Traces.{Seen, nothing, a-read, a-claim}
 use Rattle.demands.proofs.Untouched.{Untouched, read-refused, open-refused}

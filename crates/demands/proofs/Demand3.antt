@@ -15,6 +15,7 @@ use Rattle.kept.specs.declared.Entry.{Entry}
 use Rattle.kept.specs.Tables.{Kept, keeping, entryAt}
 use Rattle.kept.specs.Inside.{TextCounted}
 use Rattle.kept.proofs.Laws.{counts-text, counts-of, earlier-fits-of}
+use Rattle.kept.proofs.Later.{Later, later-same, later-then, entry-later}
 use Rattle.steps.specs.Source.{Source, source}
 use Rattle.reading.specs.declared.Answer.the-variants as answer
 use Rattle.reading.specs.Reads.{Outcome, kept, readOf}
@@ -28,7 +29,7 @@ use Rattle.demands.specs.Refusals.{by-rule, by-memory, Why, unsound, unc
 use Rattle.demands.proofs.Refusals.{read-why}
 use Rattle.demands.proofs.Lemmas.Ways.{Way, refuses, ends, keeps, way}
 use Rattle.demands.proofs.Lemmas.Keeping.{fresh-right, after-right}
-use Rattle.demands.proofs.Lemmas.Later.{Later, later-same, later-then, later-adds, entry-later, text-later}
+use Rattle.demands.proofs.Lemmas.Later.{later-adds, text-later}
 use Rattle.demands.proofs.Adds.{read-adds}
 use Rattle.demands.proofs.Untouched.{Whole, block-reads}
 
@@ -109,7 +110,7 @@ module _ (bytes dir : List ℕ) where
 
   keeps-later : (n : ℕ) (l z : Lent) → Keeps bytes dir n l z → Later (l .kept) (z .kept)
   keeps-later n l z (none x) = later-same (l .kept)
-  keeps-later n l z (next k i x y e h) = later-then (one-later l i e) (keeps-later k _ z h)
+  keeps-later n l z (next k i x y e h) = later-then (l .kept) _ (z .kept) (one-later l i e) (keeps-later k _ z h)
 
   -- reads that stop where no name is kept go through wherever other reads came
   reads-on : (n k : ℕ) (l z w : Lent) → Keeps bytes dir n l z → Keeps bytes dir k l w → ((i : ℕ) → read bytes dir w .answer ≡ answer.Kept i → ⊥) → Reads bytes dir z w
@@ -124,8 +125,8 @@ module _ (bytes dir : List ℕ) where
       let e : Entry = entryAt (l .kept .names) i in
       let t : Later (l .kept) (z .kept) = keeps-later n l z k in
       let n : NameRight (l .kept) i = r .names i h in
-      sym (ap (nameText (z .kept .text)) (entry-later (l .kept) (z .kept) t (r .counts) i h)
-      ∙ text-later (l .kept) (z .kept) t (r .counts) e (n .text))
+      sym (ap (nameText (z .kept .text)) (entry-later (l .kept) (z .kept) t i h)
+      ∙ text-later (l .kept) (z .kept) t e (n .text))
 
 -- what is kept is what reading the block from its start gives, whatever was refused in between:
 -- after any calls the names are the first of those that a whole-block read keeps

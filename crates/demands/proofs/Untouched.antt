@@ -7,6 +7,7 @@ use mathlib.Core.List.{List}
 use native.Mathlib.Omega.{arith}
 use lib.Dec.{ltb}
 use lib.ListN.{length}
+use Rattle.base.proofs.Choice.{pick-holds}
 use Rattle.block.specs.declared.Refusal.{Refusal}
 use Rattle.block.specs.declared.Opened.the-variants as opened
 use Rattle.block.specs.declared.State.{State}
@@ -18,7 +19,6 @@ use Rattle.reading.specs.declared.Answer.the-variants as answer
 use Rattle.reading.specs.Reads.{Outcome, outcome, readOf, kept}
 use Rattle.reading.specs.Blocks.{goOn, readsFrom, openedOf, blockOf}
 use Rattle.demands.specs.Runs.{Lent, lent, read, left, Keeps, none, next}
-use Rattle.steps.proofs.Picks.{pick-holds}
 use Rattle.demands.proofs.Lemmas.Ways.{Way, refuses, ends, keeps, way}
 
 -- the cursors, the state and all buffers are as they were

@@ -1,20 +1,19 @@
 -- Demand 1 for writing: a refused write leaves the directory and the bytes as they were.
 use Prim.Native.Nat.{ℕ}
 use mathlib.Core.Path.{_≡_, refl}
-use mathlib.Core.Bool.{Bool}
 use mathlib.Core.List.{List}
 use native.Mathlib.Omega.{arith}
 use lib.Dec.{leb, eqb}
 use lib.ListN.{length}
+use Rattle.base.proofs.Choice.{pick-holds}
 use Rattle.block.specs.declared.Refusal.{Refusal}
 use Rattle.writing.specs.declared.Judged.{Judged}
 use Rattle.writing.specs.declared.Judged.the-variants.{Fine, Bad}
-use Rattle.writing.specs.declared.WriteAnswer.the-variants.{Written, Refused}
+use Rattle.writing.specs.declared.WriteAnswer.the-variants.{Refused}
 use Rattle.writing.specs.Names.{namesOf, judgedFrom}
 use Rattle.writing.specs.NamePuts.{putsOf}
 use Rattle.laying.specs.Puts.{totalOf}
 use Rattle.writing.specs.Writes.{Writing, countable, laidOf, judgedOf, writeOf}
-use Rattle.steps.proofs.Picks.{pick-holds}
 
 -- if it is refused, both are as they were
 abbrev Unwritten : List ℕ → List ℕ → Writing → Type 0

@@ -1,7 +1,7 @@
 -- What is known of numbers in base ten: what callers use in place of the definitions' text.
 use Prim.Native.Nat.{ℕ, zero, suc, _+_, _-_, _*_, _/_, _%_, _^_, _≤_, _<_}
 use mathlib.Core.Path.{_≡_, refl, sym, ap, _∙_}
-use mathlib.Core.Bool.{Bool, true, false}
+use mathlib.Core.Bool.{true, false}
 use mathlib.Core.Logic.{⊎-elim}
 use mathlib.Core.List.{List, [], _∷_, _++_, reverse-cons, append-nil}
 use native.Mathlib.Omega.{arith}
@@ -11,11 +11,10 @@ use lib.Dec.{ltb, leb}
 use lib.Seq.{append-snoc}
 use borrow.Author.Tests.{le-leb, lt-leb, le-ltb, lt-ltb, leb-true, ltb-true}
 use lib.ListN.{length, getD, length-reverse}
-use Rattle.base.specs.Choice.{pick}
-use Rattle.base.proofs.Choice.{pick-true, pick-false, both-true, both-of, both-left, both-right}
+use Rattle.base.proofs.Choice.{pick-true, pick-false, pick-holds, both-true, both-of, both-left, both-right}
 use Rattle.base.proofs.Numbers.{lt-or-ge}
 use Rattle.digits.specs.Digits.{low, padded, countWithin, digitCount, printed, fitsWidth, isDigit, allDigits, valueFrom, valueOf}
-use Rattle.base.proofs.Every.{every-more, every-one, every-append, every-at, every-none}
+use Rattle.base.proofs.Every.{every-more, every-one, every-append, every-none}
 
 -- Lengths
 
@@ -62,12 +61,6 @@ all-digits-padded n (suc w) =
 pub all-digits-printed : (n : ℕ) → allDigits (printed n) ≡ true
 all-digits-printed n = ap allDigits (printed-padded n) ∙ all-digits-padded n (digitCount n)
 
-pub padded-byte : (n w i : ℕ) → i < w → (48 ≤ getD (padded n w) i 0) × (getD (padded n w) i 0 ≤ 57)
-padded-byte n w i h = digit-range _ (every-at isDigit (padded n w) (all-digits-padded n w) i (omega (arith, length-padded n w)))
-
-pub printed-byte : (n i : ℕ) → i < length (printed n) → (48 ≤ getD (printed n) i 0) × (getD (printed n) i 0 ≤ 57)
-printed-byte n i h = digit-range _ (every-at isDigit (printed n) (all-digits-printed n) i h)
-
 -- How many
 
 one-digit : (k n : ℕ) → n < 10 → countWithin k n ≡ 1
@@ -104,15 +97,10 @@ pub count-more : (n : ℕ) → 10 ≤ n → n < 2 ^ 32 → digitCount n ≡ suc 
 unfolding digitCount
 count-more n h k = enough 9 n (omega arith) ∙ more-digits 9 n h
 
-positive : (b : Bool) (x : ℕ) → 1 ≤ pick b 1 (suc x)
-unfolding pick
-positive true x = omega arith
-positive false x = omega arith
-
 within-positive : (k n : ℕ) → 1 ≤ countWithin k n
 unfolding countWithin
 within-positive zero n = omega arith
-within-positive (suc k) n = positive (ltb n 10) (countWithin k (n / 10))
+within-positive (suc k) n = pick-holds (λ (c : ℕ). 1 ≤ c) (ltb n 10) 1 (suc (countWithin k (n / 10))) (λ e. omega arith) (λ e. omega arith)
 
 -- a number below ten to the w has at most w digits
 within-le : (w k n : ℕ) → n < 10 ^ suc w → countWithin k n ≤ suc w
@@ -140,12 +128,20 @@ pub count-positive : (n : ℕ) → 1 ≤ digitCount n
 unfolding digitCount
 count-positive n = within-positive 9 n
 
+within-short : (k n : ℕ) → countWithin k n ≤ suc k
+unfolding countWithin
+within-short zero n = omega arith
+within-short (suc k) n =
+    pick-holds (λ (c : ℕ). c ≤ suc (suc k)) (ltb n 10) 1 (suc (countWithin k (n / 10))) (λ e. omega arith) (λ e. omega (arith, within-short k (n / 10)))
+
 pub count-ten : (n : ℕ) → n < 2 ^ 32 → digitCount n ≤ 10
 unfolding digitCount
-count-ten n h = within-le 9 9 n (omega arith)
+count-ten n h = within-short 9 n
 
-pub printed-length : (n : ℕ) → n < 2 ^ 32 → (1 ≤ length (printed n)) × (length (printed n) ≤ 10)
-printed-length n h = (omega (arith, length-printed n, count-positive n), omega (arith, length-printed n, count-ten n h))
+-- ten digits at most, of any number
+pub printed-short : (n : ℕ) → length (printed n) ≤ 10
+unfolding digitCount
+printed-short n = omega (arith, length-printed n, within-short 9 n)
 
 pub count-le : (n w : ℕ) → 1 ≤ w → n < 10 ^ w → digitCount n ≤ w
 unfolding digitCount
@@ -157,15 +153,18 @@ unfolding digitCount
 below-count n zero h k = absurd (omega (arith, within-positive 9 n))
 below-count n (suc w) h k = within-lt 9 w n (omega arith) k
 
+pub count-is : (n w : ℕ) → n < 2 ^ 32 → 10 ^ w ≤ n → n < 10 ^ suc w → suc w ≡ digitCount n
+count-is n w h a b =
+    ⊎-elim
+    (λ l. absurd (omega (arith, below-count n w h (omega arith))))
+    (λ g. omega (arith, count-le n (suc w) (omega arith) b))
+    (lt-or-ge (digitCount n) (suc w))
+
 -- Widths
 
 pub fits-of : (n w : ℕ) → 1 ≤ w → n < 10 ^ w → fitsWidth n w ≡ true
 unfolding fitsWidth
 fits-of n w h k = both-of (le-leb _ _ h) (lt-ltb _ _ k)
-
-pub fits-positive : (n w : ℕ) → fitsWidth n w ≡ true → 1 ≤ w
-unfolding fitsWidth
-fits-positive n w e = leb-true _ _ (both-true (leb 1 w) (ltb n (10 ^ w)) e .0)
 
 pub fits-below : (n w : ℕ) → fitsWidth n w ≡ true → n < 10 ^ w
 unfolding fitsWidth
@@ -174,9 +173,6 @@ fits-below n w e = ltb-true _ _ (both-true (leb 1 w) (ltb n (10 ^ w)) e .1)
 pub fits-zero : (n w : ℕ) → w < 1 → fitsWidth n w ≡ false
 unfolding fitsWidth
 fits-zero n w h = both-left (ltb n (10 ^ w)) (lt-leb _ _ h)
-
-pub fits-count : (n w : ℕ) → fitsWidth n w ≡ true → digitCount n ≤ w
-fits-count n w e = count-le n w (fits-positive n w e) (fits-below n w e)
 
 pub count-fits : (n w : ℕ) → n < 2 ^ 32 → digitCount n ≤ w → fitsWidth n w ≡ true
 count-fits n w h k = fits-of n w (omega (arith, count-positive n)) (below-count n w h k)
@@ -231,11 +227,6 @@ from-least acc (b ∷ l) =
     let g : acc * 10 ^ suc (length l) ≡ acc * 10 * 10 ^ length l = ap (λ (p : ℕ). acc * p) (pow-succ' 10 (length l)) ∙ sym (mul-assoc acc 10 (10 ^ length l)) in
     omega (arith, from-least n l)
 
-from-last : (acc b : ℕ) (l : List ℕ) → valueFrom acc (l ++ b ∷ []) ≡ 10 * valueFrom acc l + (b - 48)
-unfolding valueFrom
-from-last acc b [] = refl
-from-last acc b (x ∷ l) = from-last (10 * acc + (x - 48)) b l
-
 -- a run of w digits says a number below ten to the w, and printed with w digits that is the run
 pub value-below : (s : List ℕ) (w : ℕ) → allDigits s ≡ true → length s ≡ w → valueOf s < 10 ^ w
 unfolding valueOf
@@ -273,16 +264,3 @@ module _ (s : List ℕ) (w : ℕ) (e : allDigits s ≡ true) (l : length s ≡ w
 
   pub printed-value : printed (valueOf s) ≡ s
   printed-value = printed-padded (valueOf s) ∙ ap (padded (valueOf s)) count-value ∙ padded-value s w e l
-
-pub value-padded : (n w : ℕ) → n < 10 ^ w → valueOf (padded n w) ≡ n
-unfolding valueOf valueFrom
-value-padded n zero h = rw padded-none (omega arith)
-value-padded n (suc w) h =
-    ap (valueFrom 0) (padded-more n w) ∙ from-last 0 (48 + n % 10) (padded (n / 10) w)
-    ∙ ap (λ (m : ℕ). 10 * m + (48 + n % 10 - 48)) (value-padded (n / 10) w (div-ten w n h)) ∙ omega arith
-
-pub value-printed : (n : ℕ) → n < 2 ^ 32 → valueOf (printed n) ≡ n
-value-printed n h = ap valueOf (printed-padded n) ∙ value-padded n (digitCount n) (below-count n (digitCount n) h (omega arith))
-
-pub printed-injective : (m n : ℕ) → m < 2 ^ 32 → n < 2 ^ 32 → printed m ≡ printed n → m ≡ n
-printed-injective m n h k e = sym (value-printed m h) ∙ ap valueOf e ∙ value-printed n k

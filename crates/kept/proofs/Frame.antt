@@ -6,15 +6,16 @@ use native.Mathlib.Omega.{arith}
 use native.Mathlib.Nat.{add-zero}
 use lib.ListN.{length, getD}
 use Rattle.base.specs.Memory.{written}
-use Rattle.base.proofs.Memory.{below-written}
+use Rattle.base.proofs.Every.{every-same}
+use Rattle.base.proofs.Memory.{below-written, within-written}
+use Rattle.base.proofs.Holding.{Holds, holds-at}
 use Rattle.block.specs.declared.State.{State}
-use Rattle.block.proofs.Every.{every-same}
 use Rattle.kept.specs.declared.Entry.{Entry}
 use Rattle.kept.specs.declared.Row.{Row}
 use Rattle.kept.specs.Tables.{Kept, entryAt, rowAt}
 use Rattle.kept.specs.Judgement.{rowFits, rowsFit}
 use Rattle.kept.specs.Inside.{RowInside, EntryInside, Earlier}
-use Rattle.kept.proofs.Writes.{within-written}
+use Rattle.kept.proofs.Laws.{row-more}
 
 -- two tables have the same first n fives
 abbrev pub Alike : List ℕ → List ℕ → ℕ → Type 0
@@ -58,7 +59,7 @@ module _ (d : List ℕ) (n : ℕ) (s : List ℕ) (i j : ℕ) (room : 5 * n ≤ l
   number-written : (k : ℕ) → k < 5 → getD (written d (5 * n) s) (5 * i + k) 0 ≡ getD s (5 * j + k) 0
   number-written k h =
       let e : 5 * i + k ≡ 5 * n + (5 * j + k) = omega arith in
-      rw e (within-written d (5 * n) s (5 * j + k) room (omega arith))
+      rw e (within-written d (5 * n) s room (5 * j + k) (omega arith))
 
   first-written : getD (written d (5 * n) s) (5 * i) 0 ≡ getD s (5 * j) 0
   first-written = simp add-zero at (number-written 0 (omega arith))
@@ -89,9 +90,21 @@ pub one-entry : (a b c d e : ℕ) → entryAt (a ∷ b ∷ c ∷ d ∷ e ∷ [])
 unfolding entryAt
 one-entry a b c d e = refl
 
-pub one-row : (a b c d e : ℕ) → rowAt (a ∷ b ∷ c ∷ d ∷ e ∷ []) 0 ≡ record { kind = a; number = b; width = c; start = d; length = e }
-unfolding rowAt
-one-row a b c d e = refl
+-- five numbers that stand in a table are an entry, and a row
+module _ (table : List ℕ) (i a b c d e : ℕ) (five : Holds table (5 * i) (a ∷ b ∷ c ∷ d ∷ e ∷ [])) where
+  number-holds : (k : ℕ) → k < 5 → getD table (5 * i + k) 0 ≡ getD (a ∷ b ∷ c ∷ d ∷ e ∷ []) k 0
+  number-holds = holds-at table (5 * i) (a ∷ b ∷ c ∷ d ∷ e ∷ []) five
+
+  first-holds : getD table (5 * i) 0 ≡ a
+  first-holds = simp add-zero at (number-holds 0 (omega arith))
+
+  pub entry-holds : entryAt table i ≡ record { start = a; length = b; first = c; rows = d; distance = e }
+  unfolding entryAt
+  entry-holds = rw (first-holds, number-holds 1 (omega arith), number-holds 2 (omega arith), number-holds 3 (omega arith), number-holds 4 (omega arith))
+
+  pub row-holds : rowAt table i ≡ record { kind = a; number = b; width = c; start = d; length = e }
+  unfolding rowAt
+  row-holds = rw (first-holds, number-holds 1 (omega arith), number-holds 2 (omega arith), number-holds 3 (omega arith), number-holds 4 (omega arith))
 
 -- what pointed inside still does when more is kept behind it
 pub entry-more : (s more : State) (a b : List ℕ) → s .text ≤ more .text → s .rows ≤ more .rows → Alike a b (s .rows)
@@ -104,8 +117,7 @@ entry-more s more a b h k alike e t =
       rows = record { some = y .some; most = y .most; ends = omega arith };
       each =
           λ j l u.
-          let r = t .each j l u in
-          subst (λ (v : Row). RowInside (more .text) v) (row-alike a b (s .rows) alike j (omega arith)) (record { ends = omega arith; kind = r .kind });
+          subst (λ (v : Row). RowInside (more .text) v) (row-alike a b (s .rows) alike j (omega arith)) (row-more (s .text) (more .text) h (rowAt a j) (t .each j l u));
     }
 
 pub earlier-more : (m more : Kept) (n : ℕ) → m .state .text ≤ more .state .text → m .state .rows ≤ more .state .rows

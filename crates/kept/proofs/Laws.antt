@@ -1,5 +1,5 @@
 -- What the judgement tells, and what makes it pass.
-use Prim.Native.Nat.{ℕ, _+_, _*_, _/_, _≤_, _<_}
+use Prim.Native.Nat.{ℕ, _+_, _*_, _≤_, _<_}
 use mathlib.Core.Path.{_≡_, refl, sym, _∙_}
 use mathlib.Core.Bool.{true}
 use mathlib.Core.List.{List}
@@ -10,9 +10,9 @@ use lib.Dec.{leb, eqb}
 use lib.ListN.{length}
 use Rattle.base.specs.Choice.{both}
 use Rattle.base.proofs.Choice.{both-true, both-of, pick-true, pick-false, by-test}
+use Rattle.base.proofs.Every.{every-each, each-every}
 use Rattle.digits.specs.Digits.{fitsWidth}
 use Rattle.block.specs.declared.State.{State}
-use Rattle.block.proofs.Every.{every-each, each-every}
 use Rattle.kept.specs.declared.Entry.{Entry}
 use Rattle.kept.specs.declared.Row.{Row}
 use Rattle.kept.specs.Tables.{Kept, keeping, room, rowAt}
@@ -20,10 +20,6 @@ use Rattle.kept.specs.Judgement.{textCounts, rowCounts, counts, entryTex
 use Rattle.kept.specs.Inside.{TextCounted, RowCounted, Counted, TextInside, RowsInside, KindInside, RowInside, Earlier}
 
 -- how many fives a table has
-pub room-is : (t : List ℕ) → length t / 5 ≡ room t
-unfolding room
-room-is t = refl
-
 pub room-holds : (t : List ℕ) (k : ℕ) → k ≤ room t → 5 * k ≤ length t
 unfolding room
 room-holds t k h = omega arith
@@ -169,10 +165,9 @@ module _ (used : ℕ) (r : Row) where
   unfolding rowFits
   row-fits-of t = both-of (le-leb _ _ (t .ends)) (row-kind-of r (t .kind))
 
-  -- what fits still fits when more is used
-  pub row-fits-more : (more : ℕ) → used ≤ more → rowFits used r ≡ true → rowFits more r ≡ true
-  unfolding rowFits
-  row-fits-more more h t = let a = both-true _ _ t in both-of (le-leb (r .start + r .length) more (omega (arith, leb-true (r .start + r .length) used (a .0)))) (a .1)
+-- what points inside still does when more is used
+pub row-more : (used more : ℕ) → used ≤ more → (r : Row) → RowInside used r → RowInside more r
+row-more used more h r t = record { ends = let l : r .start + r .length ≤ used = t .ends in omega arith; kind = t .kind }
 
 module _ (used : ℕ) (rows : List ℕ) (n i : ℕ) where
   pub rows-each : rowsFit used rows i n ≡ true → (j : ℕ) → i ≤ j → j < i + n → rowFits used (rowAt rows j) ≡ true
@@ -182,9 +177,6 @@ module _ (used : ℕ) (rows : List ℕ) (n i : ℕ) where
   pub each-rows : ((j : ℕ) → i ≤ j → j < i + n → rowFits used (rowAt rows j) ≡ true) → rowsFit used rows i n ≡ true
   unfolding rowsFit
   each-rows t = each-every (λ (l : ℕ). rowFits used (rowAt rows l)) n i t
-
-pub rows-fit-more : (used more : ℕ) (rows : List ℕ) (i n : ℕ) → used ≤ more → rowsFit used rows i n ≡ true → rowsFit more rows i n ≡ true
-rows-fit-more used more rows i n h t = each-rows more rows n i (λ j a b. row-fits-more used (rowAt rows j) more h (rows-each used rows n i t j a b))
 
 module _ (m : Kept) (i : ℕ) where
   pub earlier : earlierFits m i ≡ true → Earlier m i

@@ -1,5 +1,4 @@
-pub mod Tests
-pub mod Writes
 pub mod Steps
 pub mod Laws
 pub mod Frame
+pub mod Later

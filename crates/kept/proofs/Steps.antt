@@ -4,12 +4,11 @@ use mathlib.Core.Path.{_≡_, sym, _∙_}
 use mathlib.Core.Bool.{Bool, true, false, _&&_}
 use mathlib.Core.List.{List}
 use Rattle.base.specs.Choice.{both}
-use Rattle.base.proofs.Choice.{both-left, pick-true}
-use Rattle.block.proofs.Every.{every-turn, every-done}
+use Rattle.base.proofs.Choice.{both-left, both-none, both-both, and-both, pick-true}
+use Rattle.base.proofs.Every.{every-turn, every-done}
 use Rattle.kept.specs.declared.Entry.{Entry}
 use Rattle.kept.specs.Tables.{Kept, entryAt, rowAt}
 use Rattle.kept.specs.Judgement.{entryText, entryRows, rowFits, rowsFit, earlierFits}
-use Rattle.kept.proofs.Tests.{and-both, both-both, both-none}
 
 -- the loop carries "so far and the rest from here is the whole"
 pub rows-start : (used : ℕ) (rows : List ℕ) (i n many : ℕ) → n ≡ many → both true (rowsFit used rows i n) ≡ rowsFit used rows i many

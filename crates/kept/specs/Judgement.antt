@@ -5,9 +5,9 @@ use mathlib.Core.List.{List}
 use lib.Dec.{leb, eqb}
 use lib.ListN.{length}
 use Rattle.base.specs.Choice.{pick, both}
+use Rattle.base.specs.Every.{each}
 use Rattle.digits.specs.Digits.{fitsWidth}
 use Rattle.block.specs.declared.State.{State}
-use Rattle.block.specs.Block.{every}
 use Rattle.kept.specs.declared.Entry.{Entry}
 use Rattle.kept.specs.declared.Row.{Row}
 use Rattle.kept.specs.Tables.{Kept, room, entryAt, rowAt}
@@ -51,7 +51,7 @@ rowFits used r = both (leb (r .start + r .length) used) (rowKind r)
 
 -- so many rows from one on
 unfoldable pub rowsFit : ℕ → List ℕ → ℕ → ℕ → Bool
-rowsFit used rows first many = every (λ (i : ℕ). rowFits used (rowAt rows i)) first many
+rowsFit used rows first many = each (λ (i : ℕ). rowFits used (rowAt rows i)) first many
 
 -- an earlier name's entry and all its rows
 unfoldable pub earlierFits : Kept → ℕ → Bool

@@ -20,11 +20,11 @@ pub fn entry_at(names: &[u32], i: u32) -> Entry
     }
 }
 
-pub fn row_at(rows: &[u32], i: u32) -> Row
+pub fn row_in(rows: &[u32], i: usize) -> Row
     requires { ⌜ 5 * i + 5 ≤ length (now rows) ⌝ }
     ensures { λ r. ⌜ r ≡ rowAt (now (rows .entry)) i ⌝ }
 {
-    let at = 5 * (i as usize);
+    let at = 5 * i;
     Row {
         kind: rows[at],
         number: rows[at + 1],
@@ -32,4 +32,11 @@ pub fn row_at(rows: &[u32], i: u32) -> Row
         start: rows[at + 3],
         length: rows[at + 4],
     }
+}
+
+pub fn row_at(rows: &[u32], i: u32) -> Row
+    requires { ⌜ 5 * i + 5 ≤ length (now rows) ⌝ }
+    ensures { λ r. ⌜ r ≡ rowAt (now (rows .entry)) i ⌝ }
+{
+    row_in(rows, i as usize)
 }

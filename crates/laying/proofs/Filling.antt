@@ -7,9 +7,10 @@ use native.Mathlib.Omega.{arith}
 use native.Mathlib.Numerals.{add-one}
 use borrow.Author.Tests.{eqb-true, eqb-false}
 use lib.Dec.{eqb}
-use lib.ListN.{length, take, drop, length-append, length-drop}
-use lib.Seq.{take-at, take-add, drop-at, length-take-le}
+use lib.ListN.{length, take, drop, length-append, length-drop, take-append-drop}
+use lib.Seq.{take-add, length-take-le}
 use Rattle.base.proofs.Choice.{by-test}
+use Rattle.base.proofs.Lists.{written-mid, none-long}
 use Rattle.base.proofs.Memory.{length-part}
 use Rattle.base.specs.Choice.{pick}
 use Rattle.base.specs.Memory.{part, written}
@@ -20,24 +21,6 @@ use Rattle.laying.specs.Passes.{counts, fills, world, stepOf, runOf, Roo
 use Rattle.laying.proofs.Joined.{joined-none, joined-same, joined-at, joined-but, joined-last, length-joined, length-joined-suc, length-joined-at}
 use Rattle.laying.proofs.Tables.{length-table, end-table, table-same, offset-joined}
 use Rattle.laying.proofs.Passes.{share-same, share-other, length-content, content-first, Inside, sizeOf, size-total, run-none, run-one, ends-more, moved-more, ends-all, sizes-run, sizes-roomy}
-
--- a write in the middle
-written-mid : (p x r s : List ℕ) (at : ℕ) → length p ≡ at → length x ≡ length s → written (p ++ x ++ r) at s ≡ p ++ s ++ r
-unfolding written
-written-mid p x r s at e f =
-    let l : List ℕ = p ++ x ++ r in
-    let a : l ≡ p ++ (x ++ r) = append-assoc p x r in
-    ap (λ (t : List ℕ). t ++ s ++ drop (at + length s) l) (ap (take at) a ∙ take-at p (x ++ r) at e)
-    ∙ ap (λ (t : List ℕ). p ++ s ++ t) (drop-at (p ++ x) r (at + length s) (length-append p x ∙ omega arith))
-
-take-drop : (n : ℕ) (l : List ℕ) → take n l ++ drop n l ≡ l
-take-drop zero l = refl
-take-drop (suc n) [] = refl
-take-drop (suc n) (x ∷ l) = ap (λ (t : List ℕ). x ∷ t) (take-drop n l)
-
-none-long : (l : List ℕ) → length l ≡ 0 → l ≡ []
-none-long [] e = refl
-none-long (x ∷ l) e = absurd (omega arith)
 
 -- spans of what they have and their gaps
 abbrev spanned : (ℕ → List ℕ) → (ℕ → List ℕ) → ℕ → List ℕ
@@ -74,7 +57,7 @@ module _ (p : Put) (d g : ℕ → List ℕ) (tail : List ℕ) (h : p .span < 129
       let X : List ℕ = take n (g k) in
       let R : List ℕ = drop n (g k) in
       let s : share p k ≡ xs = share-same p k refl in
-      let mine : d k ++ g k ≡ d k ++ X ++ R = ap (λ (l : List ℕ). d k ++ l) (sym (take-drop n (g k))) ∙ sym (append-assoc (d k) X R) in
+      let mine : d k ++ g k ≡ d k ++ X ++ R = ap (λ (l : List ℕ). d k ++ l) (sym (take-append-drop n (g k))) ∙ sym (append-assoc (d k) X R) in
       let was : joined f 0 1290 ++ tail ≡ (A ++ d k) ++ X ++ (R ++ (B ++ tail)) =
       ap (λ (l : List ℕ). l ++ tail) (joined-at f k 1290 h) ∙ ap (λ (l : List ℕ). A ++ l ++ B ++ tail) mine ∙ regroup A (d k) X R B tail in
       let yours : spanned (had p d) (gap p g) k ≡ d k ++ xs ++ R = ap (λ (l : List ℕ). d k ++ l ++ drop (length l) (g k)) s in
@@ -218,7 +201,7 @@ module _ (ps : List Put) (bytes : List ℕ) (u : Inside ps) (h : totalOf ps ≤ 
 
   whole : joined (spanned none all) 0 1290 ++ drop (totalOf ps) bytes ≡ bytes
   unfolding totalOf
-  whole = ap (λ (l : List ℕ). l ++ drop (startIn ps 1290) bytes) (so-far 1290 (omega arith)) ∙ take-drop (startIn ps 1290) bytes
+  whole = ap (λ (l : List ℕ). l ++ drop (startIn ps 1290) bytes) (so-far 1290 (omega arith)) ∙ take-append-drop (startIn ps 1290) bytes
 
   gaps : Gaps ps (startIn ps) none all
   unfolding none startIn

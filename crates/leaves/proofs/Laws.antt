@@ -1,11 +1,10 @@
 -- Laws of `placed`, in a contract's direction.
-use Prim.Native.Nat.{ℕ, _+_, _≤_, _<_}
-use mathlib.Core.Path.{_≡_, refl, ap, _∙_}
+use Prim.Native.Nat.{ℕ, _+_}
+use mathlib.Core.Path.{_≡_, refl}
 use mathlib.Core.Bool.{Bool, true, false}
 use mathlib.Core.List.{List}
 use lib.Dec.{leb}
 use lib.ListN.{length}
-use Rattle.base.specs.Choice.{both}
 use Rattle.base.specs.Memory.{written}
 use Rattle.base.proofs.Choice.{took, left, both-of, both-left, both-right}
 use Rattle.leaves.specs.Leaves.{nothing, leaves, placed}

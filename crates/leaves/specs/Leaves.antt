@@ -1,20 +1,17 @@
 -- What each leaf answers at the C boundary: its value as one number, and the largest 64-bit number where there is none.
-use Prim.Native.Nat.{ℕ, _+_, _*_, _≤_}
+use Prim.Native.Nat.{ℕ, _+_, _*_}
 use mathlib.Core.Bool.{Bool}
 use mathlib.Core.List.{List}
 use lib.Dec.{leb}
 use lib.ListN.{length, set}
 use Rattle.base.specs.Choice.{pick, both}
 use Rattle.base.specs.Memory.{written}
-use Rattle.digits.specs.Digits.{printed, padded, fitsWidth}
-use Rattle.spans.specs.Spans.{byteAt, fourAt, textAt}
 use Rattle.spans.specs.declared.NextByte.{NextByte}
 use Rattle.spans.specs.declared.NextByte.the-variants as byte
 use Rattle.spans.specs.declared.NextFour.{NextFour}
 use Rattle.spans.specs.declared.NextFour.the-variants as four
 use Rattle.spans.specs.declared.NextText.{NextText}
 use Rattle.spans.specs.declared.NextText.the-variants as text
-use Rattle.block.specs.Block.{sound, allInside}
 
 abbrev pub nothing : ℕ
 nothing = 18446744073709551615

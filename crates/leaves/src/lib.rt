@@ -1,4 +1,4 @@
-// The leaves, exported for tests: printing, widths, classes, what stands at a cursor, and the judgement of the tables.
+// The leaves, exported for tests: printing, widths, classes, what stands at a cursor, the judgement of the tables; and the listing.
 // Not for users: the library's own boundary is another crate.
 ghost use mathlib.Core.Path.{_≡_};
 ghost use mathlib.Core.Bool.{true};
@@ -10,7 +10,9 @@ ghost use Rattle.digits.specs.Digits.{printed, padded, fitsWidth};
 ghost use Rattle.classes.specs.Classes.{classOf};
 ghost use Rattle.spans.specs.Spans.{byteAt, fourAt, textAt};
 ghost use Rattle.block.specs.Block.{sound, allInside};
+ghost use Rattle.lines.specs.Listing.{listedOf};
 ghost use Rattle.leaves.specs.Leaves.{nothing, leaves, placed, byteNumber, fourLeft, textNumber};
+use block::Verdict;
 use spans::Cursor;
 use spans::NextByte;
 use spans::NextFour;
@@ -120,12 +122,20 @@ pub extern "C" fn leaf_text(bytes: &[u8], at: u32, end: u32) -> u64
 pub extern "C" fn leaf_judge(bytes: &[u8], directory: &[u32], cursors: &[u32]) -> u32
     ensures { λ r. ⌜ r ≡ pick (sound (length (now (bytes .entry))) (now (directory .entry)) (now (cursors .entry))) (pick (allInside (now (directory .entry)) (now (cursors .entry))) 0 13) 1 ⌝ }
 {
-    if !block::sound(bytes, directory, cursors) {
-        return 1;
+    match block::judge(bytes, directory, cursors) {
+        Verdict::Unsound => 1,
+        Verdict::Outside => 13,
+        Verdict::Inside => 0,
     }
-    if block::inside(directory, cursors) {
-        0
-    } else {
-        13
+}
+
+// The listing of an input, which users have as a program; nothing where the buffer may not have room for it.
+#[no_mangle]
+pub extern "C" fn leaf_list(input: &[u8], out: &mut [u8]) -> u64
+    ensures { λ r. ⌜ leaves r (now (out .exit)) ≡ placed (leb 131072 (length (now (out .entry)))) (listedOf (now (input .entry))) 0 (now (out .entry)) ⌝ }
+{
+    if out.len() < 131072 {
+        return NOTHING;
     }
+    lines::list(input, out) as u64
 }

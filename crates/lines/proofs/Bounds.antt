@@ -1,18 +1,18 @@
 -- "Its own room always suffices": how long a listing can be.
-use Prim.Native.Nat.{ℕ, zero, suc, _+_, _-_, _*_, _/_, _≤_, _<_}
+use Prim.Native.Nat.{ℕ, zero, suc, _+_, _-_, _*_, _≤_, _<_}
 use mathlib.Core.Path.{_≡_, refl, ap}
 use mathlib.Core.Logic.{⊎-elim}
 use mathlib.Core.List.{List, [], _∷_, _++_}
 use native.Mathlib.Omega.{arith}
 use borrow.Author.Tests.{lt-ltb, le-ltb}
-use lib.Dec.{eqb, ltb}
+use lib.Dec.{eqb}
 use lib.ListN.{length, length-append}
 use Rattle.base.specs.Memory.{part}
 use Rattle.base.proofs.Choice.{pick-true, pick-false, by-test}
 use Rattle.base.proofs.Memory.{length-part}
 use Rattle.base.proofs.Numbers.{lt-or-ge}
-use Rattle.digits.specs.Digits.{countWithin, digitCount, printed}
-use Rattle.digits.proofs.Laws.{length-printed}
+use Rattle.digits.specs.Digits.{printed}
+use Rattle.digits.proofs.Laws.{printed-short}
 use Rattle.tokens.specs.declared.Padded.{Padded}
 use Rattle.block.specs.declared.Refusal.{Refusal}
 use Rattle.block.specs.declared.Refusal.the-variants.{Plain, At}
@@ -33,18 +33,6 @@ use Rattle.lines.specs.Listing.{refusalText, totalsText, answerText, ans
 use Rattle.lines.proofs.Texts.{tokens-end}
 
 -- Numbers
-
-within-short : (k n : ℕ) → countWithin k n ≤ suc k
-unfolding countWithin
-within-short zero n = omega arith
-within-short (suc k) n = by-test (ltb n 10)
-    (λ e. omega (arith, pick-true {A = ℕ} 1 (suc (countWithin k (n / 10))) e))
-    (λ e. omega (arith, pick-false {A = ℕ} 1 (suc (countWithin k (n / 10))) e, within-short k (n / 10)))
-
--- ten digits at most
-pub printed-short : (n : ℕ) → length (printed n) ≤ 10
-unfolding digitCount
-printed-short n = omega (arith, length-printed n, within-short 9 n)
 
 -- a word and a number
 labelled : (word : List ℕ) (n : ℕ) → length (word ++ printed n) ≤ length word + 10

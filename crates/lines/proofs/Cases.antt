@@ -4,13 +4,14 @@ use mathlib.Core.Path.{_≡_, refl}
 use mathlib.Core.List.{List, [], _∷_}
 use Rattle.base.specs.Choice.{pick}
 use Rattle.base.specs.Memory.{part}
+use Rattle.base.specs.Same.{same}
 use Rattle.digits.specs.Digits.{low, padded, countWithin, digitCount, printed, isDigit, valueOf, valueFrom}
 use Rattle.base.specs.Every.{every}
 use Rattle.classes.specs.Classes.{isAllowed}
 use Rattle.spans.specs.Spans.{fourBytes}
 use Rattle.block.specs.Block.{spanOf}
 use Rattle.splitting.specs.Split.{runClass, runEnd, runLimit, runAt, cutAt, textPiece, numberPiece, pieceAt}
-use Rattle.splitting.specs.Choices.{equal, riseOf, leanString, leanChar, byRise, leanDigits, byRise0, leanDigits0, lean, choiceAt, choicesFrom, choicesOf, anew, referenceOf, leansOn}
+use Rattle.splitting.specs.Choices.{riseOf, leanString, leanChar, byRise, leanDigits, byRise0, leanDigits0, lean, choiceAt, choicesFrom, choicesOf, anew, referenceOf, leansOn}
 use Rattle.laying.specs.Puts.{share, contentOf, joined, startIn, totalOf}
 use Rattle.writing.specs.Names.{namesAfter, namesOf, ended, goodName, judgedFrom}
 use Rattle.writing.specs.NamePuts.{typeNumber, pieceType, choiceType, piecePuts, valuePuts, choicePuts, tokenPuts, headPuts, referencePuts, namePuts, putsFrom, putsOf}
@@ -38,20 +39,20 @@ shown =
     ∷ []
 
 pub listing : listedOf run ≡ shown
-unfolding pick part low padded countWithin digitCount printed isDigit every isAllowed valueOf valueFrom fourBytes spanOf runClass runEnd runLimit runAt cutAt textPiece numberPiece pieceAt equal riseOf leanString leanChar byRise leanDigits byRise0 leanDigits0 lean choiceAt choicesFrom choicesOf anew referenceOf leansOn share contentOf joined startIn totalOf namesAfter namesOf ended goodName judgedFrom typeNumber pieceType choiceType piecePuts valuePuts choicePuts tokenPuts headPuts referencePuts namePuts putsFrom putsOf countable refusedWord atWord stringWord charWord digitsWord digits0Word deltaWord delta0Word matchWord endWord dupWord diffWord namesWord bytesWord slash newline stringText charText paddedText pieceText choiceText tokensText referenceText nameText lineOf linesFrom linesOf refusalText totalsText answerText judgedAnswer answerOf listingOf listedOf
+unfolding pick part low padded countWithin digitCount printed isDigit every isAllowed valueOf valueFrom fourBytes spanOf runClass runEnd runLimit runAt cutAt textPiece numberPiece pieceAt same riseOf leanString leanChar byRise leanDigits byRise0 leanDigits0 lean choiceAt choicesFrom choicesOf anew referenceOf leansOn share contentOf joined startIn totalOf namesAfter namesOf ended goodName judgedFrom typeNumber pieceType choiceType piecePuts valuePuts choicePuts tokenPuts headPuts referencePuts namePuts putsFrom putsOf countable refusedWord atWord stringWord charWord digitsWord digits0Word deltaWord delta0Word matchWord endWord dupWord diffWord namesWord bytesWord slash newline stringText charText paddedText pieceText choiceText tokensText referenceText nameText lineOf linesFrom linesOf refusalText totalsText answerText judgedAnswer answerOf listingOf listedOf
 listing = refl
 
 -- no byte: "0 names 0 bytes"
 pub nothing : listedOf [] ≡ 48 ∷ 32 ∷ 110 ∷ 97 ∷ 109 ∷ 101 ∷ 115 ∷ 32 ∷ 48 ∷ 32 ∷ 98 ∷ 121 ∷ 116 ∷ 101 ∷ 115 ∷ 10 ∷ []
-unfolding pick part low padded countWithin digitCount printed isDigit every isAllowed valueOf valueFrom fourBytes spanOf runClass runEnd runLimit runAt cutAt textPiece numberPiece pieceAt equal riseOf leanString leanChar byRise leanDigits byRise0 leanDigits0 lean choiceAt choicesFrom choicesOf anew referenceOf leansOn share contentOf joined startIn totalOf namesAfter namesOf ended goodName judgedFrom typeNumber pieceType choiceType piecePuts valuePuts choicePuts tokenPuts headPuts referencePuts namePuts putsFrom putsOf countable refusedWord atWord stringWord charWord digitsWord digits0Word deltaWord delta0Word matchWord endWord dupWord diffWord namesWord bytesWord slash newline stringText charText paddedText pieceText choiceText tokensText referenceText nameText lineOf linesFrom linesOf refusalText totalsText answerText judgedAnswer answerOf listingOf listedOf
+unfolding pick part low padded countWithin digitCount printed isDigit every isAllowed valueOf valueFrom fourBytes spanOf runClass runEnd runLimit runAt cutAt textPiece numberPiece pieceAt same riseOf leanString leanChar byRise leanDigits byRise0 leanDigits0 lean choiceAt choicesFrom choicesOf anew referenceOf leansOn share contentOf joined startIn totalOf namesAfter namesOf ended goodName judgedFrom typeNumber pieceType choiceType piecePuts valuePuts choicePuts tokenPuts headPuts referencePuts namePuts putsFrom putsOf countable refusedWord atWord stringWord charWord digitsWord digits0Word deltaWord delta0Word matchWord endWord dupWord diffWord namesWord bytesWord slash newline stringText charText paddedText pieceText choiceText tokensText referenceText nameText lineOf linesFrom linesOf refusalText totalsText answerText judgedAnswer answerOf listingOf listedOf
 nothing = refl
 
 -- `A`, then a name with a space: "refused 8 at 1"
 pub bad-byte : listedOf (65 ∷ 10 ∷ 32 ∷ 10 ∷ []) ≡ 114 ∷ 101 ∷ 102 ∷ 117 ∷ 115 ∷ 101 ∷ 100 ∷ 32 ∷ 56 ∷ 32 ∷ 97 ∷ 116 ∷ 32 ∷ 49 ∷ 10 ∷ []
-unfolding pick part low padded countWithin digitCount printed isDigit every isAllowed valueOf valueFrom fourBytes spanOf runClass runEnd runLimit runAt cutAt textPiece numberPiece pieceAt equal riseOf leanString leanChar byRise leanDigits byRise0 leanDigits0 lean choiceAt choicesFrom choicesOf anew referenceOf leansOn share contentOf joined startIn totalOf namesAfter namesOf ended goodName judgedFrom typeNumber pieceType choiceType piecePuts valuePuts choicePuts tokenPuts headPuts referencePuts namePuts putsFrom putsOf countable refusedWord atWord stringWord charWord digitsWord digits0Word deltaWord delta0Word matchWord endWord dupWord diffWord namesWord bytesWord slash newline stringText charText paddedText pieceText choiceText tokensText referenceText nameText lineOf linesFrom linesOf refusalText totalsText answerText judgedAnswer answerOf listingOf listedOf
+unfolding pick part low padded countWithin digitCount printed isDigit every isAllowed valueOf valueFrom fourBytes spanOf runClass runEnd runLimit runAt cutAt textPiece numberPiece pieceAt same riseOf leanString leanChar byRise leanDigits byRise0 leanDigits0 lean choiceAt choicesFrom choicesOf anew referenceOf leansOn share contentOf joined startIn totalOf namesAfter namesOf ended goodName judgedFrom typeNumber pieceType choiceType piecePuts valuePuts choicePuts tokenPuts headPuts referencePuts namePuts putsFrom putsOf countable refusedWord atWord stringWord charWord digitsWord digits0Word deltaWord delta0Word matchWord endWord dupWord diffWord namesWord bytesWord slash newline stringText charText paddedText pieceText choiceText tokensText referenceText nameText lineOf linesFrom linesOf refusalText totalsText answerText judgedAnswer answerOf listingOf listedOf
 bad-byte = refl
 
 -- `A` without its byte 10: "refused 12"
 pub unended : listedOf (65 ∷ []) ≡ 114 ∷ 101 ∷ 102 ∷ 117 ∷ 115 ∷ 101 ∷ 100 ∷ 32 ∷ 49 ∷ 50 ∷ 10 ∷ []
-unfolding pick part low padded countWithin digitCount printed isDigit every isAllowed valueOf valueFrom fourBytes spanOf runClass runEnd runLimit runAt cutAt textPiece numberPiece pieceAt equal riseOf leanString leanChar byRise leanDigits byRise0 leanDigits0 lean choiceAt choicesFrom choicesOf anew referenceOf leansOn share contentOf joined startIn totalOf namesAfter namesOf ended goodName judgedFrom typeNumber pieceType choiceType piecePuts valuePuts choicePuts tokenPuts headPuts referencePuts namePuts putsFrom putsOf countable refusedWord atWord stringWord charWord digitsWord digits0Word deltaWord delta0Word matchWord endWord dupWord diffWord namesWord bytesWord slash newline stringText charText paddedText pieceText choiceText tokensText referenceText nameText lineOf linesFrom linesOf refusalText totalsText answerText judgedAnswer answerOf listingOf listedOf
+unfolding pick part low padded countWithin digitCount printed isDigit every isAllowed valueOf valueFrom fourBytes spanOf runClass runEnd runLimit runAt cutAt textPiece numberPiece pieceAt same riseOf leanString leanChar byRise leanDigits byRise0 leanDigits0 lean choiceAt choicesFrom choicesOf anew referenceOf leansOn share contentOf joined startIn totalOf namesAfter namesOf ended goodName judgedFrom typeNumber pieceType choiceType piecePuts valuePuts choicePuts tokenPuts headPuts referencePuts namePuts putsFrom putsOf countable refusedWord atWord stringWord charWord digitsWord digits0Word deltaWord delta0Word matchWord endWord dupWord diffWord namesWord bytesWord slash newline stringText charText paddedText pieceText choiceText tokensText referenceText nameText lineOf linesFrom linesOf refusalText totalsText answerText judgedAnswer answerOf listingOf listedOf
 unended = refl

@@ -1,11 +1,10 @@
 -- Texts said one behind another: room for both is room for each, and the two are one text.
-use Prim.Native.Nat.{ℕ, _+_, _-_}
+use Prim.Native.Nat.{ℕ, _+_}
 use mathlib.Core.Path.{_≡_, sym, ap, _∙_, subst}
 use mathlib.Core.List.{List, [], _++_}
 use native.Mathlib.Omega.{arith}
 use lib.ListN.{length, length-append}
-use lib.Seq.{take-all}
-use Rattle.base.specs.Memory.{written, part}
+use Rattle.base.specs.Memory.{written}
 use Rattle.base.proofs.Memory.{written-next, written-none, length-written}
 use Rattle.lines.specs.Page.{Page, page, said, HasRoom}
 
@@ -27,10 +26,6 @@ unfolding said
 said-none w =
     ap (λ (x : List ℕ). page x (w .at + 0)) (written-none (w .out) (w .at) [])
     ∙ ap (λ (n : ℕ). page (w .out) n) (let e : w .at + 0 ≡ w .at = omega arith in e)
-
-pub part-all : (s : List ℕ) → part s 0 (length s) ≡ s
-unfolding part
-part-all s = take-all (length s - 0) s (omega arith)
 
 module _ (s t : List ℕ) (w : Page) (h : HasRoom (s ++ t) w) where
   pub first-room : HasRoom s w

@@ -5,13 +5,14 @@ use mathlib.Core.List.{List, [], _++_}
 use native.Mathlib.Omega.{arith}
 use lib.ListN.{length, drop}
 use Rattle.base.specs.Memory.{part}
+use Rattle.base.proofs.Lists.{part-none}
 use Rattle.splitting.specs.declared.Choice.{Choice}
 use Rattle.splitting.specs.declared.Choice.the-variants.{End}
 use Rattle.splitting.specs.Split.{cutAt}
 use Rattle.splitting.specs.Choices.{choiceAt, choicesFrom, choicesOf}
 use Rattle.splitting.proofs.Runs.{cut-range, cut-before}
 use Rattle.writing.specs.Names.{namesAfter, namesOf, NameAt}
-use Rattle.writing.proofs.NameLaws.{names-out, part-empty}
+use Rattle.writing.proofs.NameLaws.{names-out}
 use Rattle.lines.specs.Page.{Page, said, HasRoom}
 use Rattle.lines.specs.Lines.{choiceText, tokensText, lineOf, linesFrom, linesOf}
 use Rattle.lines.proofs.Pages.{first-room, next-room, said-next, said-none}
@@ -78,16 +79,18 @@ pub record Naming (input : List ℕ) (w₀ w : Page) (n from to start : ℕ) : T
   pub room : HasRoom (linesFrom n (part input from to) (namesAfter [] (drop start input))) w
   pub rest : said (linesFrom n (part input from to) (namesAfter [] (drop start input))) w ≡ said (linesOf (namesOf input)) w₀
 
-pub names-start : (input : List ℕ) (w : Page) → HasRoom (linesOf (namesOf input)) w → Naming input w w 0 0 0 0
+pub names-start : (input : List ℕ) (w : Page) {n : ℕ} → n ≡ 0 → HasRoom (linesOf (namesOf input)) w → Naming input w w n 0 0 0
 unfolding linesOf namesOf
-names-start input w q = record {
-  low = omega arith;
-  high = omega arith;
-  within = omega arith;
-  count = omega arith;
-  room = subst (λ (l : List ℕ). HasRoom (linesFrom 0 l (namesAfter [] input)) w) (sym (part-empty input 0)) q;
-  rest = ap (λ (l : List ℕ). said (linesFrom 0 l (namesAfter [] input)) w) (part-empty input 0);
-}
+names-start input w {n} e q =
+    let first : Naming input w w 0 0 0 0 = record {
+      low = omega arith;
+      high = omega arith;
+      within = omega arith;
+      count = omega arith;
+      room = subst (λ (l : List ℕ). HasRoom (linesFrom 0 l (namesAfter [] input)) w) (sym (part-none input 0 0 (omega arith))) q;
+      rest = ap (λ (l : List ℕ). said (linesFrom 0 l (namesAfter [] input)) w) (part-none input 0 0 (omega arith));
+    } in
+    subst (λ (m : ℕ). Naming input w w m 0 0 0) (sym e) first
 
 module _ (input : List ℕ) (w₀ w : Page) (n from to start : ℕ) (k : Naming input w₀ w n from to start) where
   module _ (end : ℕ) (e : NameAt input start end) where

@@ -82,10 +82,12 @@ fn put_tokens(out: &mut [u8], at: usize, table: &[u8; 256], before: &[u8], name:
     let mut a: usize = 0;
     let mut b: usize = 0;
     while a < name.len() {
-        let c = splitting::choice_at(table, before, name, p, a, b);
+        let e = splitting::cut_at(table, name, p, a);
+        let f = splitting::cut_at(table, before, p, b);
+        let c = splitting::choice_at(table, before, name, p, a, e, b, f);
         next = put_choice(out, next, name, c);
-        a = splitting::cut(table, name, p, a);
-        b = splitting::cut(table, before, p, b);
+        a = e.end;
+        b = f.end;
         p += 1;
     }
     put_choice(out, next, name, Choice::End)

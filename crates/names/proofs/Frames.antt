@@ -22,10 +22,7 @@ use Rattle.names.specs.declared.Judged.the-variants as judged
 use Rattle.names.specs.Names.{Draft, draft, Named, named, refused, past, typeIn, valuePast, grown, ended, printable, onward, nameFrom, nameOf}
 use Rattle.names.specs.Judge.{summary, draftOf}
 use Rattle.names.proofs.Cursors.{open-token, open-ended, past-later, value-later}
-use Rattle.names.proofs.Growing.{Grows, grows, Alike, name-same}
-
-never-named : {r : ℕ} {d : Draft} → refused r ≡ named d → ⊥
-never-named q = let z : _≡_ {A = ℕ} 0 1 = cc in omega arith
+use Rattle.names.proofs.Growing.{never-named, Grows, grows, Alike, name-same}
 
 -- two tables have the same cursors from position p on
 abbrev pub SameFrom : ℕ → List ℕ → List ℕ → Type 0

@@ -13,6 +13,7 @@ use Rattle.classes.specs.Classes.{allAllowed}
 use Rattle.spans.specs.declared.Cursor.{Cursor}
 use Rattle.tokens.specs.Tokens.{bytesOf, rowOf}
 use Rattle.tokens.specs.declared.Token.{Token}
+use Rattle.tokens.proofs.Laws.{length-row}
 use Rattle.block.specs.Block.{spanOf}
 use Rattle.steps.specs.declared.Step.{Step}
 use Rattle.steps.specs.declared.Step.the-variants as step
@@ -20,12 +21,8 @@ use Rattle.steps.specs.Source.{Source, Earlier, byteIn}
 use Rattle.steps.specs.Steps.{stepAt}
 use Rattle.names.specs.Names.{Draft, draft, Named, named, refused, past, typeIn, valuePast, grown, ended, printable, onward, nameFrom, nameOf}
 
-never-named : {r : ℕ} {d : Draft} → refused r ≡ named d → ⊥
+pub never-named : {r : ℕ} {d : Draft} → refused r ≡ named d → ⊥
 never-named q = let z : _≡_ {A = ℕ} 0 1 = cc in omega arith
-
-length-row : (t : Token) (at : ℕ) → length (rowOf t at) ≡ 5
-unfolding rowOf
-length-row t at = refl
 
 pub printable-short : (bytes : List ℕ) (n : ℕ) → printable bytes n ≡ true → n + length bytes ≤ 254
 unfolding printable

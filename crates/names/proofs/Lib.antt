@@ -3,3 +3,9 @@ pub mod Cursors
 pub mod Growing
 pub mod Turns
 pub mod Frames
+pub mod OneTurn
+pub mod Matches
+pub mod OneByOne
+pub mod Spelling
+pub mod Running
+pub mod Walks

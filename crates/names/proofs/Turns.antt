@@ -1,47 +1,37 @@
 -- A name kept token by token: the memory holds it as far as it is read, and the rest of it is what it was.
-use Prim.Native.Nat.{ℕ, zero, suc, _+_, _-_, _*_, _^_, _≤_, _<_}
-use mathlib.Core.Path.{_≡_, refl, sym, ap, _∙_, subst}
-use mathlib.Core.Bool.{Bool, true, false}
+use Prim.Native.Nat.{ℕ, suc, _+_, _-_, _*_, _^_, _≤_, _<_}
+use mathlib.Core.Path.{_≡_, refl, sym, ap, _∙_}
+use mathlib.Core.Bool.{true}
 use mathlib.Core.List.{List, [], _∷_, _++_}
 use native.Mathlib.Omega.{arith}
-use borrow.Author.Tests.{eqb-false}
 use lib.Dec.{eqb}
 use lib.ListN.{length, take, getD, length-append}
-use Rattle.base.specs.Choice.{pick}
 use Rattle.base.specs.Memory.{written}
 use Rattle.base.proofs.Choice.{pick-true, pick-false, by-test}
 use Rattle.base.proofs.Memory.{length-written, written-next, written-none}
 use Rattle.spans.specs.declared.Cursor.{Cursor}
 use Rattle.spans.specs.declared.NextByte.{NextByte}
-use Rattle.spans.specs.declared.NextByte.the-variants as byte
 use Rattle.block.specs.Block.{spanOf, endOf, cursorOf}
 use Rattle.block.specs.Open.{Open}
 use Rattle.tokens.specs.declared.TokenType.{TokenType}
-use Rattle.tokens.specs.declared.TokenType.the-variants as type
 use Rattle.tokens.specs.declared.Token.{Token}
-use Rattle.tokens.specs.Types.{typeOf}
 use Rattle.tokens.specs.Tokens.{bytesOf, lengthOf, rowOf}
-use Rattle.tokens.specs.Inside.{Inside, KeptBelow}
-use Rattle.tokens.proofs.Laws.{length-bytes, length-row, bytes-same, below-more}
-use Rattle.tokens.proofs.Texts.{take-written}
+use Rattle.tokens.proofs.Laws.{length-bytes, length-row, bytes-same}
+use Rattle.base.proofs.Below.{take-written}
 use Rattle.kept.proofs.Frame.{alike-written}
 use Rattle.steps.specs.declared.Step.{Step}
 use Rattle.steps.specs.declared.Step.the-variants as step
 use Rattle.steps.specs.Source.{Source, source, Earlier, earlier, byteIn}
 use Rattle.steps.specs.Steps.{typedStep, stepAt}
-use Rattle.steps.specs.Sound.{Rows, Below, reach}
-use Rattle.steps.proofs.Laws.{Known, Given, given, Moved, Ended, ended, rows-reach}
+use Rattle.steps.specs.Sound.{Rows, Below}
+use Rattle.steps.proofs.Laws.{Known, Given, given, ended}
 use Rattle.steps.proofs.Frame.{byte-in-same, step-frame, rows-same}
 use Rattle.names.specs.Names.{Draft, draft, Named, named, refused, past, typeIn, valuePast, grown, printable, onward, nameFrom, nameOf}
 use Rattle.names.specs.Names as names
 use Rattle.names.specs.Judge.{draftOf}
-use Rattle.names.specs.Moves.{Movable}
 use Rattle.names.specs.Keeps.{Memory, memory, putToken, putName, Roomy}
 use Rattle.names.proofs.Cursors.{open-token, past-later, value-later}
-use Rattle.names.proofs.Growing.{Grows, grows, Alike, name-same, printable-short}
-
-never-named : {r : ℕ} {d : Draft} → refused r ≡ named d → ⊥
-never-named q = let z : _≡_ {A = ℕ} 0 1 = cc in omega arith
+use Rattle.names.proofs.Growing.{never-named, grows, Alike, name-same, printable-short}
 
 pub step-of : (s : Source) (e : Earlier) (p : ℕ) {found : NextByte} {r : Step} → found ≡ byteIn s p 0 → r ≡ typedStep s e p found → r ≡ stepAt s e p
 unfolding stepAt
@@ -105,16 +95,6 @@ module _ (bytes dir text₀ rows₀ : List ℕ) (first count used row : ℕ) (n 
   known-at q h l =
       record { opened = g .opened; rows = g .known; first = omega (arith, g .low); last = l; bytes = bytesBelow; texts = g .belowText; numbers = g .belowRows }
 
-  -- what a step asks for
-  pub step-asks : Open bytes dir cur × (Rows (reach text) (earlier text rows first count) × ((first + count < 2 ^ 32) × ((1 ≤ p) × (p ≤ 128))))
-  step-asks = (
-    g .opened,
-    (
-      rows-reach used (earlier text rows first count) (g .known) (omega (arith, room .near)),
-      (omega (arith, room .behind, room .few), (g .low, g .high)),
-    ),
-  )
-
   one : onward (source bytes dir cur) (earlier text rows first count) used p (g .d) (stepAt (source bytes dir cur) (earlier text rows first count) p)
       (nameFrom (source bytes dir cur) (earlier text rows first count) used (129 - (p + 1)) (p + 1)) ≡ named (draftOf n)
   unfolding nameFrom
@@ -158,16 +138,13 @@ module _ (bytes dir text₀ rows₀ : List ℕ) (first count used row : ℕ) (n 
       let w = ended (source bytes dir cur) (earlier text rows first count) used p (known-at p (omega arith) (g .high)) q .there in
       omega (arith, dirBelow (2 * spanOf p 0 + 1))
 
-  -- what moving past END and writing its byte 10 ask for
-  pub end-room : stepAt (source bytes dir cur) (earlier text rows first count) p ≡ step.End → at + 1 ≤ length text
+  -- what keeping END asks for
+  pub end-asks : stepAt (source bytes dir cur) (earlier text rows first count) p ≡ step.End
+      → ((length cur ≡ 1290) × ((p ≤ 128) × (cursorOf cur (spanOf p 0) + 1 < 2 ^ 32))) × (at + 1 ≤ length text)
   unfolding names.ended
-  end-room q =
+  end-asks q =
       let dl = ap (λ (x : Draft). length (x .text)) (end-of q) in
-      omega (arith, room .bytes, g .place, g .lengthText)
-
-  pub end-moves : stepAt (source bytes dir cur) (earlier text rows first count) p ≡ step.End
-      → ((length cur ≡ 1290) × ((p ≤ 128) × (0 ≤ 9))) × (cursorOf cur (spanOf p 0) + 1 < 2 ^ 32)
-  end-moves q = ((g .opened .table, (g .high, omega arith)), end-there q)
+      ((g .opened .table, (g .high, end-there q)), omega (arith, room .bytes, g .place, g .lengthText))
 
   module _ (t : Token) (c : Cursor) (q : stepAt (source bytes dir cur) (earlier text rows first count) p ≡ step.Got t c) where
     next : Draft
@@ -208,9 +185,6 @@ module _ (bytes dir text₀ rows₀ : List ℕ) (first count used row : ℕ) (n 
     next-short : length (g .d .text) + lengthOf t ≤ 254
     next-short = omega (arith, printable-short (bytesOf bytes text t) (length (g .d .text)) prints, wide)
 
-    pub place-fits : at + lengthOf t < 2 ^ 32
-    place-fits = omega (arith, next-short, g .place, room .near)
-
     -- there is room for the token
     pub token-room : (at + lengthOf t ≤ length text) × (5 * (row + (p - 1)) + 5 ≤ length rows)
     token-room =
@@ -218,36 +192,6 @@ module _ (bytes dir text₀ rows₀ : List ℕ) (first count used row : ℕ) (n 
           omega (arith, w .longer, next-text, room .bytes, g .place, g .lengthText),
           omega (arith, w .more, next-count, room .table, g .counted, g .lengthRows),
         )
-
-    end-below : (i : ℕ) → endOf dir i < 2 ^ 32
-    unfolding endOf
-    end-below i = dirBelow (2 * i + 1)
-
-    type-here : typeIn (byteIn (source bytes dir cur) p 0) ≡ typeOf (told .code)
-    unfolding typeIn
-    type-here = rw (told .typed)
-
-    width-there : typeOf (told .code) ≡ type.Digits0 → cursorOf cur (spanOf p 4) + 1 ≤ endOf dir (spanOf p 4)
-    width-there h = subst (λ (ty : TokenType). Moved (source bytes dir cur) p (c .0) ty) h (told .moved) .1
-
-    -- what keeping the token asks for
-    pub asks : (ty : TokenType) → ty ≡ typeIn (byteIn (source bytes dir cur) p 0)
-        → Inside bytes text t × (KeptBelow at t
-        × (((at + lengthOf t ≤ length text) × (5 * (row + (p - 1)) + 5 ≤ length rows))
-        × (((length cur ≡ 1290) × ((p ≤ 128) × (cursorOf cur (spanOf p 0) + 1 < 2 ^ 32))) × Movable ty p cur)))
-    asks ty e = (
-      told .inside,
-      (
-        below-more used at t (told .below) (omega (arith, g .place)),
-        (
-          token-room,
-          (
-            (g .opened .table, (g .high, omega (arith, told .there, end-below (spanOf p 0)))),
-            λ h. omega (arith, width-there (sym type-here ∙ sym e ∙ h), end-below (spanOf p 4)),
-          ),
-        ),
-      ),
-    )
 
     module _ (ty : TokenType) (text' rows' cur' : List ℕ) (e : ty ≡ typeIn (byteIn (source bytes dir cur) p 0))
         (m : memory text' rows' cur' ≡ putToken bytes (memory text rows cur) t ty p (c .0) at (row + (p - 1))) where

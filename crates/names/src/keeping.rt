@@ -1,28 +1,21 @@
-// A name that was judged, kept: its text and byte 10, its rows, and the cursors past it.
+// A token that was judged, kept: its text, its row, and the cursors past it.
 ghost use mathlib.Core.Path.{_≡_};
 ghost use Prim.Native.Nat.{_≤_, _<_, _+_, _*_, _^_};
 ghost use lib.ListN.{length};
 ghost use Rattle.block.specs.Block.{spanOf, cursorOf};
-ghost use Rattle.block.specs.Open.{Open};
 ghost use Rattle.tokens.specs.Tokens.{lengthOf};
 ghost use Rattle.tokens.specs.Inside.{Inside, KeptBelow};
-ghost use Rattle.steps.specs.Source.{source, earlier};
-ghost use Rattle.steps.specs.Sound.{Rows};
-ghost use Rattle.names.specs.Names.{typeIn, nameOf};
-ghost use Rattle.names.specs.Judge.{draftOf};
+ghost use Rattle.names.specs.Names.{typeIn};
 ghost use Rattle.names.specs.Moves.{Movable};
-ghost use Rattle.names.specs.Keeps.{memory, putToken, putName, Roomy};
+ghost use Rattle.names.specs.Keeps.{memory, putToken};
 use crate::moving;
-use block::Block;
-use block::stream;
 use spans::Cursor;
 use spans::NextByte;
 use spans::Position;
-use steps::Step;
 use tokens::Token;
 use tokens::TokenType;
 
-fn type_in(found: NextByte) -> TokenType
+pub fn type_in(found: NextByte) -> TokenType
     ensures { λ r. ⌜ r ≡ typeIn found ⌝ }
 {
     match found {
@@ -31,8 +24,8 @@ fn type_in(found: NextByte) -> TokenType
     }
 }
 
-// One token. The answer is its length.
-fn keep_token(
+// One token. Putting it down tells its length, which is not found a second time.
+pub fn keep_token(
     t: Token,
     bytes: &[u8],
     cursors: &mut [u32],
@@ -52,68 +45,8 @@ fn keep_token(
     ensures { λ r. ⌜ r ≡ lengthOf t ⌝ }
     ensures { λ _. ⌜ memory (now (text .exit)) (now (rows .exit)) (now (cursors .exit)) ≡ putToken (now (bytes .entry)) (memory (now (text .entry)) (now (rows .entry)) (now (cursors .entry))) t ty (p .0) (c .0) at row ⌝ }
 {
-    tokens::put(t, bytes, text, at as usize);
-    tokens::put_row(t, rows, row as usize, at);
+    let len = tokens::put(t, bytes, text, at as usize);
+    tokens::put_row(t, len, rows, row as usize, at);
     moving::advance(cursors, p, ty, c);
-    tokens::length(t)
-}
-
-// The steps are taken in memory that already holds the name as far as it is kept: it stands behind all that they look at.
-pub fn keep(
-    bytes: &[u8],
-    dir: &[u32],
-    cursors: &mut [u32],
-    text: &mut [u8],
-    rows: &mut [u32],
-    first: u32,
-    count: u32,
-    used: u32,
-    row: u32,
-)
-    requires { ⌜ Open (now bytes) (now dir) (now cursors) ⌝ }
-    requires { ⌜ Rows used (earlier (now text) (now rows) first count) ⌝ }
-    requires { ⌜ Roomy (nameOf (source (now bytes) (now dir) (now cursors)) (earlier (now text) (now rows) first count) used (now cursors)) (first + count) used row (now text) (now rows) ⌝ }
-    ensures { λ _. ⌜ memory (now (text .exit)) (now (rows .exit)) (now (cursors .exit)) ≡ putName used row (now (text .entry)) (now (rows .entry)) (draftOf (nameOf (source (now (bytes .entry)) (now (dir .entry)) (now (cursors .entry))) (earlier (now (text .entry)) (now (rows .entry)) first count) used (now (cursors .entry)))) ⌝ }
-{
-    let mut p: u32 = 1;
-    let mut at = used;
-    while p <= Block::TOKENS {
-        let found = steps::source::byte_in(bytes, dir, cursors, Position(p), stream::TYPE);
-        match steps::typed_step(
-            bytes,
-            dir,
-            cursors,
-            text,
-            rows,
-            first,
-            count,
-            Position(p),
-            found,
-        ) {
-            Step::Got(t, c) => {
-                let ty = type_in(found);
-                at += keep_token(
-                    t,
-                    bytes,
-                    cursors,
-                    text,
-                    rows,
-                    Position(p),
-                    ty,
-                    c,
-                    at,
-                    row + (p - 1),
-                );
-            }
-            Step::End => {
-                moving::move_on(cursors, Position(p), stream::TYPE, 1);
-                base::put_byte(text, at as usize, 10);
-                return;
-            }
-            Step::Refused(_) => {
-                return;
-            }
-        }
-        p += 1;
-    }
+    len
 }

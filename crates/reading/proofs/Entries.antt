@@ -1,36 +1,45 @@
 -- A name with room for it, and one without: what the code leaves is what the definitions say.
 use Prim.Native.Nat.{ℕ, _+_, _-_, _*_, _^_, _≤_, _<_}
 use mathlib.Core.Path.{_≡_, refl, sym, ap, _∙_}
-use mathlib.Core.Bool.{Bool, true, false}
+use mathlib.Core.Bool.{true, false}
 use mathlib.Core.List.{List, [], _∷_, _++_}
 use native.Mathlib.Omega.{arith}
-use borrow.Author.Tests.{leb-true}
-use lib.Dec.{leb, eqb}
+use borrow.Author.Tests.{leb-true, leb-false, le-leb, lt-leb}
+use lib.Dec.{leb}
 use lib.ListN.{length}
-use Rattle.base.specs.Choice.{pick, both}
 use Rattle.base.specs.Memory.{written, part}
-use Rattle.base.proofs.Choice.{took, left, both-true}
+use Rattle.base.proofs.Choice.{took, left, both-true, by-test}
 use Rattle.base.proofs.Memory.{length-part, written-next, written-none}
 use Rattle.block.specs.declared.State.{State}
-use Rattle.block.specs.Open.{Open}
+use Rattle.block.specs.Block.{state}
 use Rattle.kept.specs.declared.Entry.{Entry}
-use Rattle.kept.specs.Tables.{Kept, keeping, room}
+use Rattle.kept.specs.Tables.{Kept, keeping, room, entryAt}
 use Rattle.kept.specs.Inside.{Counted, TextInside}
 use Rattle.kept.proofs.Laws.{room-holds}
-use Rattle.steps.specs.Source.{Source, source, Earlier, earlier}
-use Rattle.steps.specs.Sound.{Rows, Below, reach}
-use Rattle.steps.proofs.Laws.{rows-reach}
-use Rattle.names.specs.declared.Judged.{Judged}
-use Rattle.names.specs.declared.Judged.the-variants as judged
-use Rattle.names.specs.Names.{Draft, draft, Named, named, refused, nameOf}
-use Rattle.names.specs.Judge.{summary, draftOf}
-use Rattle.names.specs.Keeps.{Memory, memory, putName, Roomy}
-use Rattle.names.proofs.Growing.{Grows}
-use Rattle.names.proofs.Frames.{Judges, judged-name, judged-refused, name-bounds, name-cursors}
+use Rattle.steps.specs.Source.{source, earlier}
+use Rattle.names.specs.Names.{Draft, draft}
 use Rattle.reading.specs.declared.Reading.{Reading}
-use Rattle.reading.specs.Heads.{Headed, Passable}
-use Rattle.reading.specs.Reads.{Outcome, outcome, refusing, keepingName, atName, roomOf, roomFor, entryOf, kept, keepOf, headPast, dupOf, namedOf, diffOf}
-use Rattle.reading.proofs.Heads.{head-same, head-open}
+use Rattle.reading.specs.declared.Answer.the-variants as answer
+use Rattle.reading.specs.Reads.{outcome, reading, entryBack, refusing, keepingName, atName, roomOf, roomFor, entryOf, kept, keepOf, headPast, dupOf}
+
+-- the earlier name's entry is the one so far back
+pub back-entry : (m : Kept) (d : ℕ) → entryBack m d ≡ entryAt (m .names) (m .state .names - d)
+unfolding entryBack
+back-entry m d = ap (entryAt (m .names)) (omega arith)
+
+-- room for so many, told without dividing
+pub room-test : (table : List ℕ) (k : ℕ) → leb (5 * k) (length table) ≡ leb k (room table)
+unfolding room
+room-test table k =
+    by-test (leb (5 * k) (length table))
+    (λ h. let l : 5 * k ≤ length table = leb-true _ _ h in h ∙ sym (le-leb k (room table) (omega arith)))
+    (λ h. let l : length table < 5 * k = leb-false _ _ h in h ∙ sym (lt-leb k (room table) (omega arith)))
+
+-- the answer and the state after a name that is kept
+pub entered : (st : State) (size added : ℕ) {k n t r : ℕ} → k ≡ st .names → n ≡ st .names + 1 → t ≡ st .text + size + 1 → r ≡ st .rows + added
+    → reading (answer.Kept k) (state (st .count) n t r) ≡ keepingName st size added
+unfolding keepingName
+entered st size added p q t r = rw (p, q, t, r)
 
 module _ (bytes dir cur text names rows : List ℕ) (st : State) where
   pub refused-at : {r : Reading} (n : ℕ) → r ≡ refusing st n
@@ -55,22 +64,23 @@ module _ (bytes dir cur text names rows : List ℕ) (st : State) where
       → (5 * st .names + 5 ≤ length names) × ((st .names + 1 < 2 ^ 32) × ((st .text + size + 1 < 2 ^ 32) × (st .rows + added < 2 ^ 32)))
   enter-asks size added c r s a = (omega (arith, r .entries), (omega (arith, c .kept, c .limit), (omega (arith, c .kept, c .limit, c .most), omega (arith, c .kept, c .limit, c .rowsMost))))
 
-  module _ (d : Draft) (first many distance size added : ℕ) (e : size ≡ length (d .text)) (f : added ≡ d .count) where
-    room-same : roomOf (keeping st text names rows) size added ≡ roomFor (keeping st text names rows) d
-    unfolding roomFor
-    room-same = rw (e, f)
+  pub room-same : (d : Draft) (size added : ℕ) → size ≡ length (d .text) → added ≡ d .count
+      → roomOf (keeping st text names rows) size added ≡ roomFor (keeping st text names rows) d
+  unfolding roomFor
+  room-same d size added e f = rw (e, f)
 
+  module _ (d : Draft) (first many distance size added : ℕ) (e : size ≡ length (d .text)) (f : added ≡ d .count) where
     pub keep-refused : {r : Reading} → roomOf (keeping st text names rows) size added ≡ false → r ≡ refusing st 9
         → outcome (r .answer) cur (keeping (r .state) text names rows) ≡ keepOf (source bytes dir cur) (keeping st text names rows) d first many distance
     unfolding keepOf
-    keep-refused h q = left _ _ (sym room-same ∙ h) (refused-at 9 q)
+    keep-refused h q = left _ _ (sym (room-same d size added e f) ∙ h) (refused-at 9 q)
 
     pub keep-kept : {r : Reading} {cur' text' names' rows' : List ℕ} → roomOf (keeping st text names rows) size added ≡ true → r ≡ keepingName st size added
         → cur' ≡ d .cur → text' ≡ written text (st .text) (d .text ++ (10 ∷ [])) → names' ≡ written names (5 * st .names) (entryOf st size first many distance)
         → rows' ≡ written rows (5 * st .rows) (d .rows)
         → outcome (r .answer) cur' (keeping (r .state) text' names' rows') ≡ keepOf (source bytes dir cur) (keeping st text names rows) d first many distance
     unfolding keepOf kept keepingName
-    keep-kept h q c t n w = took _ _ (sym room-same ∙ h) (rw (q, c, t, n, w, e, f))
+    keep-kept h q c t n w = took _ _ (sym (room-same d size added e f) ∙ h) (rw (q, c, t, n, w, e, f))
 
   -- rule 3
   module _ (x : Entry) (distance : ℕ) (i : TextInside st x) (k : Counted (keeping st text names rows)) where
@@ -102,77 +112,3 @@ module _ (bytes dir cur text names rows : List ℕ) (st : State) where
     pub copy-asks : roomOf (keeping st text names rows) (x .length) 0 ≡ true
         → (x .start ≤ x .start + x .length) × ((x .start + x .length ≤ st .text) × (st .text + (x .start + x .length - x .start) ≤ length text))
     copy-asks h = (omega arith, (i .ends, omega (arith, has-room (x .length) 0 h .texts)))
-
-  -- rule 4
-  module _ (distance first count : ℕ) (j : Judged)
-      (w : (used : ℕ) (c : List ℕ) → j ≡ summary (nameOf (source bytes dir cur) (earlier text rows first count) used c)) where
-    name : Named
-    name = nameOf (source bytes dir cur) (earlier text rows first count) (st .text) (headPast cur 6)
-
-    pub name-refused : {r : Reading} (n : ℕ) → j ≡ judged.Refused n → r ≡ refusing st n
-        → outcome (r .answer) cur (keeping (r .state) text names rows) ≡ diffOf (source bytes dir cur) (keeping st text names rows) distance (earlier text rows first count)
-    unfolding diffOf namedOf
-    name-refused n q r = rw (judged-refused _ (sym q ∙ w (st .text) (headPast cur 6))) (refused-at n r)
-
-    module _ (size added : ℕ) (q : j ≡ judged.Name added size) where
-      judges : Judges (nameOf (source bytes dir cur) (earlier text rows first count) (st .text) (headPast cur 6)) added size
-      judges = judged-name _ (sym q ∙ w (st .text) (headPast cur 6))
-
-      bounds : Grows (draft [] [] 0 (headPast cur 6)) (draftOf (nameOf (source bytes dir cur) (earlier text rows first count) (st .text) (headPast cur 6))) 128
-      bounds = name-bounds (source bytes dir cur) (earlier text rows first count) (st .text) (headPast cur 6) _ (judges .whole)
-
-      pub size-most : size ≤ 254
-      size-most = omega (arith, bounds .short (omega arith), judges .bytes)
-
-      pub added-most : added ≤ 127
-      added-most = omega (arith, bounds .few, judges .rows)
-
-      pub name-full : {r : Reading} → roomOf (keeping st text names rows) size added ≡ false → r ≡ refusing st 9
-          → outcome (r .answer) cur (keeping (r .state) text names rows) ≡ diffOf (source bytes dir cur) (keeping st text names rows) distance (earlier text rows first count)
-      unfolding diffOf namedOf
-      name-full h r = rw (judges .whole) (keep-refused _ (st .rows) _ distance size added (sym (judges .bytes)) (sym (judges .rows)) h r)
-
-      module _ (cur' : List ℕ) (past : cur' ≡ headPast cur 6) where
-        -- the name is the same behind its head
-        name-here : nameOf (source bytes dir cur') (earlier text rows first count) (st .text) cur'
-            ≡ nameOf (source bytes dir cur) (earlier text rows first count) (st .text) (headPast cur 6)
-        name-here =
-            rw past (name-cursors bytes dir (headPast cur 6) cur (earlier text rows first count) (st .text) (headPast cur 6) (head-same cur 6 (omega arith)))
-
-        pub keep-asks : Open bytes dir cur → Headed (source bytes dir cur) 6 distance (st .names) → Counted (keeping st text names rows)
-            → Rows (st .text) (earlier text rows first count) → first + count ≤ st .rows → roomOf (keeping st text names rows) size added ≡ true
-            → Open bytes dir cur' × (Rows (st .text) (earlier text rows first count)
-            × Roomy (nameOf (source bytes dir cur') (earlier text rows first count) (st .text) cur') (first + count) (st .text) (st .rows) text rows)
-        keep-asks o g k r b h =
-            let m = has-room size added h in (
-              rw past (head-open bytes dir cur 6 distance (st .names) o (omega arith) (omega arith) g),
-              (
-                r,
-                rw name-here
-                    (record {
-                      whole = judges .whole;
-                      bytes = omega (arith, m .texts, judges .bytes);
-                      table = omega (arith, m .table, judges .rows);
-                      behind = b;
-                      near = omega (arith, k .most, k .kept, k .limit);
-                      few = omega (arith, k .rowsMost, k .kept, k .limit);
-                    }),
-              ),
-            )
-
-        module _ {text' rows' cur'' : List ℕ}
-            (p : memory text' rows' cur'' ≡ putName (st .text) (st .rows) text rows (draftOf (nameOf (source bytes dir cur') (earlier text rows first count) (st .text) cur'))) where
-          put-here : memory text' rows' cur'' ≡ putName (st .text) (st .rows) text rows (draftOf (nameOf (source bytes dir cur) (earlier text rows first count) (st .text) (headPast cur 6)))
-          put-here = p ∙ ap (λ (x : Named). putName (st .text) (st .rows) text rows (draftOf x)) name-here
-
-          pub name-kept : {r : Reading} {names' : List ℕ} → roomOf (keeping st text names rows) size added ≡ true → r ≡ keepingName st size added
-              → names' ≡ written names (5 * st .names) (entryOf st size (st .rows) added distance)
-              → outcome (r .answer) cur'' (keeping (r .state) text' names' rows') ≡ diffOf (source bytes dir cur) (keeping st text names rows) distance (earlier text rows first count)
-          unfolding diffOf namedOf putName
-          name-kept {r} {names'} h q n =
-              let D = draftOf (nameOf (source bytes dir cur) (earlier text rows first count) (st .text) (headPast cur 6)) in
-              rw (judges .whole)
-              (keep-kept D (st .rows) (D .count) distance size added (sym (judges .bytes)) (sym (judges .rows)) h q
-              (ap (λ (x : Memory). x .cur) put-here) (ap (λ (x : Memory). x .text) put-here)
-              (n ∙ ap (λ (x : ℕ). written names (5 * st .names) (entryOf st size (st .rows) x distance)) (sym (judges .rows)))
-              (ap (λ (x : Memory). x .rows) put-here))

@@ -1,4 +1,4 @@
--- The rows of a name that is read point inside, whatever the bytes are: what is kept need not be judged again.
+-- The rows of a name that is read point inside and are spelt, whatever the bytes are: what is kept need not be judged again.
 use Prim.Native.Nat.{ℕ, zero, suc, _+_, _-_, _*_, _^_, _≤_, _<_}
 use mathlib.Core.Path.{_≡_, refl, sym, ap, _∙_, subst}
 use mathlib.Core.Bool.{true, false}
@@ -11,8 +11,10 @@ use lib.Dec.{leb, ltb, eqb}
 use lib.ListN.{length, getD, length-append, List·getD-append}
 use lib.Seq.{getD-append-add}
 use Rattle.base.specs.Choice.{pick}
-use Rattle.base.proofs.Choice.{pick-true, pick-false, by-test, both-of}
+use Rattle.base.specs.Memory.{part}
+use Rattle.base.proofs.Choice.{pick-true, pick-false, by-test, both-of, both-true, pick-holds}
 use Rattle.base.proofs.Memory.{length-part}
+use Rattle.classes.specs.Classes.{allAllowed}
 use Rattle.digits.specs.Digits.{fitsWidth}
 use Rattle.digits.proofs.Laws.{length-padded}
 use Rattle.spans.specs.declared.Cursor.{Cursor}
@@ -37,16 +39,17 @@ use Rattle.kept.specs.declared.Row.{Row}
 use Rattle.kept.specs.Tables.{rowAt}
 use Rattle.kept.specs.Judgement.{rowKind}
 use Rattle.kept.specs.Inside.{RowInside}
-use Rattle.kept.proofs.Laws.{kind-inside}
+use Rattle.kept.proofs.Laws.{kind-inside, row-more}
 use Rattle.kept.proofs.Frame.{row-alike}
 use Rattle.steps.specs.declared.Step.{Step}
 use Rattle.steps.specs.declared.Step.the-variants as step
 use Rattle.steps.specs.Source.{Source, Earlier, byteIn, fourIn, textIn}
 use Rattle.steps.specs.Steps.{stringStep, charStep, digitsStep, paddedStep, widthStep, digits0Step, deltaStep, delta0Step, tokenOf, hasRow, rowHere, hasKind, deltaAt, delta0At, matchAt, valueStep, barred, typedStep, stepAt}
 use Rattle.steps.specs.Sound.{Rows}
-use Rattle.steps.proofs.Picks.{pick-holds}
 use Rattle.names.specs.Names.{Draft, draft, Named, named, refused, grown, ended, printable, onward, nameFrom, nameOf}
-use Rattle.names.proofs.Growing.{printable-short}
+use Rattle.names.specs.Repeats.{Spelt}
+use Rattle.names.proofs.Growing.{never-named, printable-short}
+use Rattle.reading.proofs.Spelling.{Stands, stands-left, stands-right, stands-part, tokenRow, token-spelt}
 
 -- a token that prints as many bytes as its row says; a padded number fits its width
 abbrev Whole : List ℕ → List ℕ → Token → Type 0
@@ -61,10 +64,6 @@ whole-length bytes text (String t) w = length-part _ _ _ (w .0) (w .1)
 whole-length bytes text (Char b) w = refl
 whole-length bytes text (Digits n) w = refl
 whole-length bytes text (Digits0 p) w = length-padded (p .number) (p .width)
-
--- the row of a token
-abbrev tokenRow : Token → ℕ → Row
-tokenRow t at = record { kind = kindOf t; number = numberOf t; width = widthOf t; start = at; length = lengthOf t }
 
 whole-kind : (bytes text : List ℕ) (t : Token) (at : ℕ) → Whole bytes text t → lengthOf t ≤ 254 → rowKind (tokenRow t at) ≡ true
 unfolding lengthOf rowKind kindOf numberOf widthOf pick
@@ -197,9 +196,14 @@ module _ (a : List ℕ) (n : ℕ) (t : Token) (at : ℕ) (fives : length a ≡ 5
 pub record Rowed (used : ℕ) (d : Draft) : Type 0 where
   pub fives : length (d .rows) ≡ 5 * d .count
   pub each : (j : ℕ) → j < d .count → RowInside (used + length (d .text)) (rowAt (d .rows) j)
+  pub spelt : (text : List ℕ) → Stands text used (d .text) → (j : ℕ) → j < d .count → Spelt text (rowAt (d .rows) j)
+  pub laid : (j : ℕ) → j + 1 < d .count → rowAt (d .rows) (j + 1) .start ≡ rowAt (d .rows) j .start + rowAt (d .rows) j .length
+  pub last : (j : ℕ) → j + 1 ≡ d .count → rowAt (d .rows) j .start + rowAt (d .rows) j .length ≡ used + length (d .text)
 
-pub row-more : (used more : ℕ) → used ≤ more → (x : Row) → RowInside used x → RowInside more x
-row-more used more h x i = record { ends = let l : x .start + x .length ≤ used = i .ends in omega arith; kind = i .kind }
+-- 8 left every byte allowed
+printable-allowed : (b : List ℕ) (n : ℕ) → printable b n ≡ true → allAllowed b ≡ true
+unfolding printable
+printable-allowed b n q = both-true (allAllowed b) (leb (n + length b) 254) q .0
 
 module _ (s : Source) (e : Earlier) (used p : ℕ) (t : Token) (c : ℕ) (d : Draft) where
   grown-rowed : Whole (s .bytes) (e .text) t → printable (bytesOf (s .bytes) (e .text) t) (length (d .text)) ≡ true → Rowed used d → Rowed used (grown s e used p t c d)
@@ -212,19 +216,32 @@ module _ (s : Source) (e : Earlier) (used p : ℕ) (t : Token) (c : ℕ) (d : Dr
       let n : length (d .text ++ b) ≡ length (d .text) + length b = length-append (d .text) b in
       let here : RowInside (used + length (d .text ++ b)) (tokenRow t at) =
       record { ends = omega arith; kind = kind-inside (tokenRow t at) (whole-kind (s .bytes) (e .text) t at w (omega arith)) } in
+      let new : (j : ℕ) → j ≡ d .count → rowAt (d .rows ++ rowOf t at) j ≡ tokenRow t at =
+      λ j q. ap (rowAt (d .rows ++ rowOf t at)) q ∙ row-behind (d .rows) (d .count) t at (r .fives) in
+      let old : (j : ℕ) → j < d .count → rowAt (d .rows ++ rowOf t at) j ≡ rowAt (d .rows) j = row-before (d .rows) (d .count) t at (r .fives) in
       record {
         fives = length-append (d .rows) (rowOf t at) ∙ omega (arith, length-row t at, r .fives);
         each = λ j h.
             ⊎-elim
-            (λ q. subst (λ (x : Row). RowInside (used + length (d .text ++ b)) x)
-            (sym (ap (rowAt (d .rows ++ rowOf t at)) q ∙ row-behind (d .rows) (d .count) t at (r .fives))) here)
-            (λ q. subst (λ (x : Row). RowInside (used + length (d .text ++ b)) x) (sym (row-before (d .rows) (d .count) t at (r .fives) j q))
+            (λ q. subst (RowInside (used + length (d .text ++ b))) (sym (new j q)) here)
+            (λ q. subst (RowInside (used + length (d .text ++ b))) (sym (old j q))
             (row-more at (used + length (d .text ++ b)) (omega arith) (rowAt (d .rows) j) (r .each j q)))
             (eq-or-lt-of-le {n = j} {m = d .count} (omega arith));
+        spelt = λ text k j h.
+            ⊎-elim
+            (λ q. subst (Spelt text) (sym (new j q))
+            (token-spelt (s .bytes) (e .text) text t at
+            (ap (λ (n : ℕ). part text at (at + n)) (sym l) ∙ stands-part text at b (stands-right text used (d .text) b k)) (printable-allowed b (length (d .text)) y)))
+            (λ q. subst (Spelt text) (sym (old j q)) (r .spelt text (stands-left text used (d .text) b k) j q))
+            (eq-or-lt-of-le {n = j} {m = d .count} (omega arith));
+        laid = λ j h.
+            ⊎-elim
+            (λ q. ap (λ (x : Row). x .start) (new (j + 1) q) ∙ sym (r .last j q))
+            (λ q. ap (λ (x : Row). x .start) (old (j + 1) q) ∙ r .laid j q)
+            (eq-or-lt-of-le {n = j + 1} {m = d .count} (omega arith))
+            ∙ sym (ap (λ (x : Row). x .start + x .length) (old j (omega arith)));
+        last = λ j h. ap (λ (x : Row). x .start + x .length) (new j (omega arith)) ∙ omega arith;
       }
-
-never-named : {r : ℕ} {d : Draft} → refused r ≡ named d → ⊥
-never-named q = let z : _≡_ {A = ℕ} 0 1 = cc in omega arith
 
 module _ (s : Source) (e : Earlier) (used : ℕ) (o : Open (s .bytes) (s .dir) (s .cur)) (rows : Rows used e) where
   module _ (p : ℕ) (d D : Draft) (rest : Draft → Named) (on : (g : Draft) → Rowed used g → rest g ≡ named D → Rowed used D) (r : Rowed used d) where
@@ -232,7 +249,7 @@ module _ (s : Source) (e : Earlier) (used : ℕ) (o : Open (s .bytes) (s .dir) (
     unfolding ended
     ended-rowed q =
         let w : ended p d ≡ D = cc in
-        subst (Rowed used) w (record { fives = r .fives; each = r .each })
+        subst (Rowed used) w (record { fives = r .fives; each = r .each; spelt = r .spelt; laid = r .laid; last = r .last })
 
     onward-rowed : (st : Step) → Fine s e st → onward s e used p d st rest ≡ named D → Rowed used D
     unfolding onward
@@ -257,4 +274,10 @@ module _ (s : Source) (e : Earlier) (used : ℕ) (o : Open (s .bytes) (s .dir) (
   -- of every name that is read
   pub name-rowed : (c : List ℕ) (D : Draft) → nameOf s e used c ≡ named D → Rowed used D
   unfolding nameOf
-  name-rowed c D q = from-rowed 128 1 (draft [] [] 0 c) D (omega arith) (omega arith) (record { fives = refl; each = λ j h. absurd (omega arith) }) q
+  name-rowed c D q = from-rowed 128 1 (draft [] [] 0 c) D (omega arith) (omega arith) (record {
+    fives = refl;
+    each = λ j h. absurd (omega arith);
+    spelt = λ text k j h. absurd (omega arith);
+    laid = λ j h. absurd (omega arith);
+    last = λ j h. absurd (omega arith);
+  }) q

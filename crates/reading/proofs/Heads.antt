@@ -72,16 +72,15 @@ module _ (s : Source) (n : ℕ) where
     head-other a b = rw q (left _ _ (ne-eqb _ _ a) (left _ _ (ne-eqb _ _ b) refl))
 
 -- the cursors past a head
-pub head-fits : (cur now : List ℕ) (i n : ℕ) → now ≡ past cur (spanOf 0 0) 1 → 1 ≤ i → i ≤ 9 → cursorOf cur (spanOf 0 i) + n < 2 ^ 32 → cursorOf now (spanOf 0 i) + n < 2 ^ 32
+pub head-kept : (cur now : List ℕ) (i n : ℕ) → now ≡ past cur (spanOf 0 0) n → 1 ≤ i → i ≤ 9 → cursorOf now (spanOf 0 i) ≡ cursorOf cur (spanOf 0 i)
 unfolding past
-head-fits cur now i n e h k l =
-    let w = ap (λ (x : List ℕ). cursorOf x (spanOf 0 i)) e
-    ∙ cursor-set-other cur (spanOf 0 0) (cursorOf cur (spanOf 0 0) + 1) (spanOf 0 i) (λ q. let z = span-stream 0 i 0 0 k (omega arith) q in omega arith) in
-    omega arith
+head-kept cur now i n e h k =
+    ap (λ (x : List ℕ). cursorOf x (spanOf 0 i)) e
+    ∙ cursor-set-other cur (spanOf 0 0) (cursorOf cur (spanOf 0 0) + n) (spanOf 0 i) (λ q. let z = span-stream 0 i 0 0 k (omega arith) q in omega arith)
 
-pub head-moved : (cur : List ℕ) (i : ℕ) {now then : List ℕ} → now ≡ past cur (spanOf 0 0) 1 → then ≡ past now (spanOf 0 i) 4 → then ≡ headPast cur i
+pub head-moved : (cur : List ℕ) (i : ℕ) {now then : List ℕ} {m n : ℕ} → now ≡ past cur (spanOf 0 0) m → then ≡ past now (spanOf 0 i) n → m ≡ 1 → n ≡ 4 → then ≡ headPast cur i
 unfolding headPast
-head-moved cur i e f = f ∙ ap (λ (x : List ℕ). past x (spanOf 0 i) 4) e
+head-moved cur i e f p q = rw (f, e, p, q)
 
 -- they are those of position 0 alone
 pub head-same : (cur : List ℕ) (i : ℕ) → i ≤ 9 → SameFrom 1 (headPast cur i) cur

@@ -1,4 +1,4 @@
--- What a read needs holds again after it: the block is open, the counts are judged, and what every kept name points to is inside. A read that keeps a name adds one.
+-- What a read needs holds again after it: the block is open, the counts are judged, what every kept name points to is inside, and its rows are spelt. A read that keeps a name adds one.
 use Prim.Native.Nat.{ℕ, zero, suc, _+_, _-_, _*_, _^_, _≤_, _<_}
 use mathlib.Core.Path.{_≡_, refl, sym, ap, _∙_, subst}
 use mathlib.Core.Bool.{Bool, true, false}
@@ -11,9 +11,10 @@ use lib.Dec.{leb, eqb}
 use lib.ListN.{length, length-append}
 use Rattle.base.specs.Choice.{pick, both}
 use Rattle.base.specs.Memory.{written, part}
-use Rattle.base.proofs.Choice.{by-test, pick-true, pick-false}
+use Rattle.base.proofs.Choice.{by-test, pick-true, pick-false, pick-holds}
 use Rattle.base.proofs.Memory.{length-written, length-part}
 use Rattle.spans.specs.declared.Distance.{Distance}
+use Rattle.base.proofs.Below.{take-written}
 use Rattle.block.specs.declared.State.{State}
 use Rattle.block.specs.declared.Refusal.{Refusal}
 use Rattle.block.specs.Block.{allAtEnd}
@@ -24,13 +25,14 @@ use Rattle.kept.specs.declared.Row.{Row}
 use Rattle.kept.specs.Tables.{Kept, keeping, room, entryAt, rowAt}
 use Rattle.kept.specs.Judgement.{counts, earlierFits}
 use Rattle.kept.specs.Inside.{Counted, EntryInside, RowInside}
-use Rattle.kept.proofs.Laws.{earlier, earlier-fits-of, counts-of}
-use Rattle.kept.proofs.Frame.{Alike, alike-written, entry-written, row-written, one-entry, entry-more, earlier-more}
+use Rattle.kept.proofs.Laws.{earlier, earlier-fits-of, counts-of, row-more}
+use Rattle.kept.proofs.Frame.{Alike, alike-written, entry-alike, entry-written, row-written, one-entry, entry-more, earlier-more}
 use Rattle.steps.specs.Source.{Source, source, Earlier}
+use Rattle.steps.specs.Source as steps
 use Rattle.steps.specs.Sound.{Rows}
 use Rattle.steps.proofs.Laws.{rows-none, rows-judged}
-use Rattle.steps.proofs.Picks.{pick-holds}
 use Rattle.names.specs.Names.{Draft, draft, Named, named, refused, nameOf}
+use Rattle.names.specs.Repeats.{Spelt, RowsSpelt}
 use Rattle.names.proofs.Growing.{Grows}
 use Rattle.names.proofs.Frames.{name-bounds, name-open}
 use Rattle.reading.specs.declared.Head.{Head}
@@ -39,10 +41,11 @@ use Rattle.reading.specs.declared.Answer.{Answer}
 use Rattle.reading.specs.declared.Answer.the-variants as answer
 use Rattle.reading.specs.Heads.{Headed}
 use Rattle.reading.specs.Reads.{Outcome, outcome, plain, atName, roomOf, roomFor, entryOf, stateAfter, kept, keepOf, headPast, dupOf, namedOf, diffOf, none, rowsOf, entryBack, dupJudged, diffJudged, headedOf, headOf, nextOf, readOf}
-use Rattle.reading.specs.Fits.{AllFit}
+use Rattle.reading.specs.Fits.{AllFit, AllSpelt}
 use Rattle.reading.proofs.Heads.{head-same, head-open, dup-told, diff-told}
-use Rattle.reading.proofs.Entries.{Room, has-room}
-use Rattle.reading.proofs.Fitting.{Rowed, name-rowed, row-more}
+use Rattle.reading.proofs.Entries.{Room, has-room, back-entry}
+use Rattle.reading.proofs.Spelling.{stands-written, stands-left, stay-spelt}
+use Rattle.reading.proofs.Fitting.{Rowed, name-rowed}
 
 -- a read that keeps a name, after m
 pub record More (m : Kept) (o : Outcome) : Type 0 where
@@ -54,6 +57,7 @@ pub record Holds (bytes dir : List ℕ) (m : Kept) (o : Outcome) : Type 0 where
   pub opened : Open bytes dir (o .cur)
   pub counted : Counted (o .kept)
   pub fits : AllFit m → AllFit (o .kept)
+  pub spelt : AllFit m → AllSpelt m → AllSpelt (o .kept)
   pub more : (n : ℕ) → o .answer ≡ answer.Kept n → More m o
 
 refused-not : {r : Refusal} {n : ℕ} → answer.Refused r ≡ answer.Kept n → ⊥
@@ -66,11 +70,20 @@ done-not q = let z : _≡_ {A = ℕ} 0 1 = cc in omega arith
 abbrev entered : State → ℕ → ℕ → ℕ → ℕ → Entry
 entered st size first many distance = record { start = st .text; length = size; first = first; rows = many; distance = distance }
 
--- with a name more, whose entry and rows are inside, all are
-module _ (st : State) (text names rows : List ℕ) (k : Counted (keeping st text names rows)) (size added first many distance : ℕ) (text' more : List ℕ)
+-- rows kept before stay spelt
+old-spelt : (st : State) (text names rows : List ℕ) → Counted (keeping st text names rows) → (put more : List ℕ) (x : Entry) → EntryInside st rows x
+    → RowsSpelt (steps.earlier text rows (x .first) (x .rows))
+    → RowsSpelt (steps.earlier (written text (st .text) put) (written rows (5 * st .rows) more) (x .first) (x .rows))
+old-spelt st text names rows k put more x i =
+    stay-spelt text (written text (st .text) put) (st .text) rows (written rows (5 * st .rows) more) (x .first) (x .rows)
+    (sym (take-written text (st .text) put (st .text) (omega arith) (k .used)))
+    (λ j l. sym (alike-written rows (5 * st .rows) more (st .rows) (omega arith) (k .rowsUsed) j (omega (arith, i .rows .ends)))) (i .each)
+
+-- with a name more, whose entry and rows are inside, all are; and where all were spelt and its rows are, all are
+module _ (st : State) (text names rows : List ℕ) (k : Counted (keeping st text names rows)) (size added first many distance : ℕ) (put more : List ℕ)
     (inner : EntryInside (stateAfter st size added) (written rows (5 * st .rows) more) (entered st size first many distance)) where
   abbrev after : Kept
-  after = keeping (stateAfter st size added) text' (written names (5 * st .names) (entryOf st size first many distance)) (written rows (5 * st .rows) more)
+  after = keeping (stateAfter st size added) (written text (st .text) put) (written names (5 * st .names) (entryOf st size first many distance)) (written rows (5 * st .rows) more)
 
   rows-stay : Alike rows (written rows (5 * st .rows) more) (st .rows)
   rows-stay j l = sym (alike-written rows (5 * st .rows) more (st .rows) (omega arith) (k .rowsUsed) j l)
@@ -90,6 +103,18 @@ module _ (st : State) (text names rows : List ℕ) (k : Counted (keeping st text
       (λ e. subst (λ (x : Entry). EntryInside (stateAfter st size added) (written rows (5 * st .rows) more) x) (sym (new-entry i e)) inner)
       (λ h. earlier-more (keeping st text names rows) after (st .names) (omega arith) (omega arith) names-stay rows-stay i h (earlier (keeping st text names rows) i (f i h)))
       (eq-or-lt-of-le {n = i} {m = st .names} (omega arith)))
+
+  abbrev Spells : Entry → Type 0
+  Spells x = RowsSpelt (steps.earlier (written text (st .text) put) (written rows (5 * st .rows) more) (x .first) (x .rows))
+
+  spelt-more : Spells (entered st size first many distance) → AllFit (keeping st text names rows) → AllSpelt (keeping st text names rows) → AllSpelt after
+  unfolding rowsOf
+  spelt-more mine f s i l =
+      ⊎-elim
+      (λ e. subst Spells (sym (new-entry i e)) mine)
+      (λ h. subst Spells (entry-alike names (written names (5 * st .names) (entryOf st size first many distance)) (st .names) names-stay i h)
+      (old-spelt st text names rows k put more (entryAt names i) (earlier (keeping st text names rows) i (f i h)) (s i h)))
+      (eq-or-lt-of-le {n = i} {m = st .names} (omega arith))
 
 module _ (st : State) (text names rows : List ℕ) (k : Counted (keeping st text names rows)) where
   -- a copy has the earlier name's rows
@@ -118,22 +143,38 @@ module _ (st : State) (text names rows : List ℕ) (k : Counted (keeping st text
             (row-more (st .text + length (D .text)) (st .text + length (D .text) + 1) (omega arith) (rowAt (D .rows) (j - st .rows)) (r .each (j - st .rows) (omega arith)));
       }
 
+  named-spelt : (D : Draft) → Rowed (st .text) D
+      → RowsSpelt (steps.earlier (written text (st .text) (D .text ++ (10 ∷ []))) (written rows (5 * st .rows) (D .rows)) (st .rows) (D .count))
+  named-spelt D r =
+      let text' = written text (st .text) (D .text ++ (10 ∷ [])) in
+      let t = stands-left text' (st .text) (D .text) (10 ∷ []) (stands-written text (st .text) (D .text ++ (10 ∷ [])) (k .used)) in
+      let row : (j i : ℕ) → j ≡ st .rows + i → i < D .count → rowAt (written rows (5 * st .rows) (D .rows)) j ≡ rowAt (D .rows) i =
+      λ j i e l. row-written rows (st .rows) (D .rows) j i (k .rowsUsed) e (omega (arith, r .fives)) in
+      record {
+        each = λ j a b. subst (Spelt text') (sym (row j (j - st .rows) (omega arith) (omega arith))) (r .spelt text' t (j - st .rows) (omega arith));
+        laid = λ j a b.
+            ap (λ (x : Row). x .start) (row (j + 1) (j - st .rows + 1) (omega arith) (omega arith))
+            ∙ r .laid (j - st .rows) (omega arith)
+            ∙ sym (ap (λ (x : Row). x .start + x .length) (row j (j - st .rows) (omega arith) (omega arith)));
+      }
+
 module _ (bytes dir cur text names rows : List ℕ) (st : State) (o : Open bytes dir cur) (k : Counted (keeping st text names rows)) where
   at-holds : (n : ℕ) → Holds bytes dir (keeping st text names rows) (atName (source bytes dir cur) (keeping st text names rows) n)
   unfolding atName
-  at-holds n = record { opened = o; counted = k; fits = λ f. f; more = λ i q. absurd (refused-not q) }
+  at-holds n = record { opened = o; counted = k; fits = λ f. f; spelt = λ f s. s; more = λ i q. absurd (refused-not q) }
 
   plain-holds : (n : ℕ) → Holds bytes dir (keeping st text names rows) (plain (source bytes dir cur) (keeping st text names rows) n)
   unfolding plain
-  plain-holds n = record { opened = o; counted = k; fits = λ f. f; more = λ i q. absurd (refused-not q) }
+  plain-holds n = record { opened = o; counted = k; fits = λ f. f; spelt = λ f s. s; more = λ i q. absurd (refused-not q) }
 
   done-holds : Holds bytes dir (keeping st text names rows) (outcome answer.Done cur (keeping st text names rows))
-  done-holds = record { opened = o; counted = k; fits = λ f. f; more = λ i q. absurd (done-not q) }
+  done-holds = record { opened = o; counted = k; fits = λ f. f; spelt = λ f s. s; more = λ i q. absurd (done-not q) }
 
   module _ (few : st .names < st .count) where
     module _ (d : Draft) (first many distance : ℕ) (p : Open bytes dir (d .cur)) (short : length (d .text) ≤ 254) (most : d .count ≤ 127)
         (fives : length (d .rows) ≡ 5 * d .count)
-        (inner : EntryInside (stateAfter st (length (d .text)) (d .count)) (written rows (5 * st .rows) (d .rows)) (entered st (length (d .text)) first many distance)) where
+        (inner : EntryInside (stateAfter st (length (d .text)) (d .count)) (written rows (5 * st .rows) (d .rows)) (entered st (length (d .text)) first many distance))
+        (mine : AllSpelt (keeping st text names rows) → RowsSpelt (steps.earlier (written text (st .text) (d .text ++ (10 ∷ []))) (written rows (5 * st .rows) (d .rows)) first many)) where
       kept-holds : roomFor (keeping st text names rows) d ≡ true → Holds bytes dir (keeping st text names rows) (kept (keeping st text names rows) d first many distance)
       unfolding roomFor kept
       kept-holds h =
@@ -154,7 +195,8 @@ module _ (bytes dir cur text names rows : List ℕ) (st : State) (o : Open bytes
                   rowsUsed = omega (arith, r .table);
                   rowsMost = omega (arith, k .rowsMost);
                 };
-            fits = fit-more st text names rows k (length (d .text)) (d .count) first many distance (written text (st .text) (d .text ++ (10 ∷ []))) (d .rows) inner;
+            fits = fit-more st text names rows k (length (d .text)) (d .count) first many distance (d .text ++ (10 ∷ [])) (d .rows) inner;
+            spelt = λ f s. spelt-more st text names rows k (length (d .text)) (d .count) first many distance (d .text ++ (10 ∷ [])) (d .rows) inner (mine s) f s;
             more = λ n q. record { few = few; names = refl; count = refl };
           }
 
@@ -164,13 +206,15 @@ module _ (bytes dir cur text names rows : List ℕ) (st : State) (o : Open bytes
           pick-holds (Holds bytes dir (keeping st text names rows)) (roomFor (keeping st text names rows) d) _ _ kept-holds (λ h. at-holds 9)
 
     dup-holds : (distance : ℕ) (x : Entry) → Headed (source bytes dir cur) 5 distance (st .names) → EntryInside st rows x
+        → (AllSpelt (keeping st text names rows) → RowsSpelt (steps.earlier text rows (x .first) (x .rows)))
         → Holds bytes dir (keeping st text names rows) (dupOf (source bytes dir cur) (keeping st text names rows) distance x)
     unfolding dupOf
-    dup-holds distance x g i =
+    dup-holds distance x g i w =
         let l = length-part text (x .start) (x .start + x .length) (omega arith) (omega (arith, i .text .ends, k .used)) in
         keep-holds (draft (part text (x .start) (x .start + x .length)) [] 0 (headPast cur 5)) (x .first) (x .rows) distance
         (head-open bytes dir cur 5 distance (st .names) o (omega arith) (omega arith) g) (omega (arith, i .text .most)) (omega arith) refl
         (copy-inner st text names rows k x (length (part text (x .start) (x .start + x .length))) distance (omega arith) i)
+        (λ s. old-spelt st text names rows k (part text (x .start) (x .start + x .length) ++ (10 ∷ [])) [] x i (w s))
 
     named-holds : (distance : ℕ) (e : Earlier) → Rows (st .text) e → Headed (source bytes dir cur) 6 distance (st .names) → (n : Named)
         → nameOf (source bytes dir cur) e (st .text) (headPast cur 6) ≡ n → Holds bytes dir (keeping st text names rows) (namedOf (source bytes dir cur) (keeping st text names rows) distance n)
@@ -178,23 +222,30 @@ module _ (bytes dir cur text names rows : List ℕ) (st : State) (o : Open bytes
     named-holds distance e r g (named D) q =
         let b = name-bounds (source bytes dir cur) e (st .text) (headPast cur 6) D q in
         let p = head-open bytes dir cur 6 distance (st .names) o (omega arith) (omega arith) g in
+        let w = name-rowed (source bytes dir cur) e (st .text) o r (headPast cur 6) D q in
         keep-holds D (st .rows) (D .count) distance (name-open bytes dir cur e (st .text) (headPast cur 6) D p (head-same cur 6 (omega arith)) q)
         (b .short (omega arith)) (omega (arith, b .few)) (b .fives refl)
-        (named-inner st text names rows k D distance (b .some) (b .short (omega arith)) (b .held (λ z. absurd (omega arith))) (omega (arith, b .few))
-        (name-rowed (source bytes dir cur) e (st .text) o r (headPast cur 6) D q))
-    named-holds distance e w g (refused r) q = at-holds r
+        (named-inner st text names rows k D distance (b .some) (b .short (omega arith)) (b .held (λ z. absurd (omega arith))) (omega (arith, b .few)) w)
+        (λ s. named-spelt st text names rows k D w)
+    named-holds distance e w g (refused r) q = at-holds _
 
     diff-holds : (distance : ℕ) (e : Earlier) → Rows (st .text) e → Headed (source bytes dir cur) 6 distance (st .names)
         → Holds bytes dir (keeping st text names rows) (diffOf (source bytes dir cur) (keeping st text names rows) distance e)
     unfolding diffOf
     diff-holds distance e r g = named-holds distance e r g (nameOf (source bytes dir cur) e (st .text) (headPast cur 6)) refl
 
-    dup-judged-holds : (d : ℕ) → Headed (source bytes dir cur) 5 d (st .names)
+    back-inside : (d : ℕ) → earlierFits (keeping st text names rows) (st .names - d) ≡ true → EntryInside st rows (entryBack (keeping st text names rows) d)
+    back-inside d h = rw (back-entry (keeping st text names rows) d) (earlier (keeping st text names rows) (st .names - d) h)
+
+    back-spelt : (d : ℕ) → st .names - d < st .names → AllSpelt (keeping st text names rows) → RowsSpelt (rowsOf (keeping st text names rows) (entryBack (keeping st text names rows) d))
+    back-spelt d l s = rw (back-entry (keeping st text names rows) d) (s (st .names - d) l)
+
+    dup-judged-holds : (d : ℕ) → (1 ≤ d) × Headed (source bytes dir cur) 5 d (st .names)
         → Holds bytes dir (keeping st text names rows) (dupJudged (source bytes dir cur) (keeping st text names rows) d)
-    unfolding entryBack
+    unfolding rowsOf
     dup-judged-holds d g =
         pick-holds (Holds bytes dir (keeping st text names rows)) (earlierFits (keeping st text names rows) (st .names - d)) _ _
-        (λ h. dup-holds d (entryAt names (st .names - d)) g (earlier (keeping st text names rows) (st .names - d) h))
+        (λ h. dup-holds d (entryBack (keeping st text names rows) d) (g .1) (back-inside d h) (back-spelt d (omega (arith, g .0, g .1 .near))))
         (λ h. at-holds 13)
 
     first-headed : (d : ℕ) → d ≡ 0 → Headed (source bytes dir cur) 6 d (st .names) → Headed (source bytes dir cur) 6 0 (st .names)
@@ -202,20 +253,20 @@ module _ (bytes dir cur text names rows : List ℕ) (st : State) (o : Open bytes
 
     diff-judged-holds : (d : ℕ) → Headed (source bytes dir cur) 6 d (st .names)
         → Holds bytes dir (keeping st text names rows) (diffJudged (source bytes dir cur) (keeping st text names rows) d)
-    unfolding none rowsOf entryBack
+    unfolding none rowsOf
     diff-judged-holds d g =
         pick-holds (Holds bytes dir (keeping st text names rows)) (eqb d 0) _ _
         (λ z. diff-holds 0 (none (keeping st text names rows)) (rows-none (st .text) text rows (k .used)) (first-headed d (eqb-true d 0 z) g))
         (λ z.
         pick-holds (Holds bytes dir (keeping st text names rows)) (earlierFits (keeping st text names rows) (st .names - d)) _ _
         (λ h. diff-holds d (rowsOf (keeping st text names rows) (entryBack (keeping st text names rows) d))
-        (rows-judged st text rows (entryAt names (st .names - d)) (k .rowsUsed) (k .used) (earlier (keeping st text names rows) (st .names - d) h)) g)
+        (rows-judged st text rows (entryBack (keeping st text names rows) d) (k .rowsUsed) (k .used) (back-inside d h)) g)
         (λ h. at-holds 13))
 
     headed-holds : (h : Head) → headOf (source bytes dir cur) (st .names) ≡ h
         → Holds bytes dir (keeping st text names rows) (headedOf (source bytes dir cur) (keeping st text names rows) h)
     unfolding headedOf
-    headed-holds (head.Dup d) q = dup-judged-holds (d .0) (dup-told (source bytes dir cur) (st .names) d q .1)
+    headed-holds (head.Dup d) q = dup-judged-holds (d .0) (dup-told (source bytes dir cur) (st .names) d q)
     headed-holds (head.Diff d) q = diff-judged-holds (d .0) (diff-told (source bytes dir cur) (st .names) d q)
     headed-holds (head.Refused r) q = at-holds r
 

@@ -1,6 +1,6 @@
 -- Reads one after another, in the form in which the loop's turn wants them; and the public calls, way by way.
 use Prim.Native.Nat.{ℕ, zero, suc, _+_, _-_, _*_, _^_, _≤_, _<_}
-use mathlib.Core.Path.{_≡_, refl, sym, ap, _∙_, subst}
+use mathlib.Core.Path.{_≡_, refl, sym, ap, _∙_}
 use mathlib.Core.Bool.{Bool, true, false}
 use mathlib.Core.List.{List, []}
 use native.Mathlib.Omega.{arith}
@@ -12,9 +12,10 @@ use Rattle.block.specs.declared.State.{State}
 use Rattle.block.specs.declared.Opened.{Opened}
 use Rattle.block.specs.declared.Opened.the-variants as opened
 use Rattle.block.specs.declared.Refusal.{Refusal}
-use Rattle.block.specs.Block.{Opening, opening, openOf, sound, allInside}
+use Rattle.block.specs.declared.Verdict.the-variants.{Unsound, Outside, Inside}
+use Rattle.block.specs.Block.{opening, openOf, verdictOf}
 use Rattle.block.specs.Open.{Open}
-use Rattle.block.proofs.Laws.{judged-open, accepted, accepted-open, sound-directory, sound-table}
+use Rattle.block.proofs.Laws.{judged-open, accepted, accepted-open, verdict-unsound, verdict-outside, verdict-inside}
 use Rattle.kept.specs.Tables.{Kept, keeping}
 use Rattle.kept.specs.Judgement.{counts}
 use Rattle.kept.specs.Inside.{Counted}
@@ -23,10 +24,14 @@ use Rattle.steps.specs.Source.{Source, source}
 use Rattle.reading.specs.declared.Reading.{Reading}
 use Rattle.reading.specs.declared.Answer.{Answer}
 use Rattle.reading.specs.declared.Answer.the-variants as answer
-use Rattle.reading.specs.Fits.{AllFit}
+use Rattle.reading.specs.Fits.{Known}
 use Rattle.reading.specs.Reads.{Outcome, outcome, refusingPlain, plain, nextOf, readOf}
 use Rattle.reading.specs.Blocks.{isKept, fresh, goOn, readsFrom, openedOf, blockOf}
 use Rattle.reading.proofs.Holding.{More, Holds, next-holds, read-next}
+
+-- where nothing is known, nothing is asked
+pub unknown : (m : Kept) {b : Bool} → b ≡ false → Known b m
+unknown m e q = absurd (never (sym e ∙ q))
 
 -- the public read
 module _ (bytes dir cur text names rows : List ℕ) (st : State) where
@@ -35,30 +40,35 @@ module _ (bytes dir cur text names rows : List ℕ) (st : State) where
   unfolding refusingPlain plain
   plain-is n q = rw q
 
-  pub read-unsound : {r : Reading} → sound (length bytes) dir cur ≡ false → r ≡ refusingPlain st 1
+  pub read-unsound : {r : Reading} → verdictOf (length bytes) dir cur ≡ Unsound → r ≡ refusingPlain st 1
       → outcome (r .answer) cur (keeping (r .state) text names rows) ≡ readOf (source bytes dir cur) (keeping st text names rows)
   unfolding readOf
-  read-unsound h q = left _ _ h (plain-is 1 q)
+  read-unsound v q = left _ _ (verdict-unsound (length bytes) dir cur v) (plain-is 1 q)
 
-  module _ (h : sound (length bytes) dir cur ≡ true) where
-    pub read-misjudged : {r : Reading} → both (counts (keeping st text names rows)) (allInside dir cur) ≡ false → r ≡ refusingPlain st 13
+  pub read-outside : {r : Reading} → verdictOf (length bytes) dir cur ≡ Outside → r ≡ refusingPlain st 13
+      → outcome (r .answer) cur (keeping (r .state) text names rows) ≡ readOf (source bytes dir cur) (keeping st text names rows)
+  unfolding readOf
+  read-outside v q =
+      let w = verdict-outside (length bytes) dir cur v in
+      took _ _ (w .0)
+      (by-test (counts (keeping st text names rows))
+      (λ a. took _ _ a (left _ _ (w .1) (plain-is 13 q)))
+      (λ a. left _ _ a (plain-is 13 q)))
+
+  module _ (v : verdictOf (length bytes) dir cur ≡ Inside) where
+    pub read-miscounted : {r : Reading} → counts (keeping st text names rows) ≡ false → r ≡ refusingPlain st 13
         → outcome (r .answer) cur (keeping (r .state) text names rows) ≡ readOf (source bytes dir cur) (keeping st text names rows)
     unfolding readOf
-    read-misjudged w q =
-        took _ _ h
-        (by-test (counts (keeping st text names rows))
-        (λ a. took _ _ a (left _ _ (sym (pick-true (allInside dir cur) false a) ∙ w) (plain-is 13 q)))
-        (λ a. left _ _ a (plain-is 13 q)))
+    read-miscounted h q = took _ _ (verdict-inside (length bytes) dir cur v .0) (left _ _ h (plain-is 13 q))
 
-    pub read-judged : both (counts (keeping st text names rows)) (allInside dir cur) ≡ true
-        → Open bytes dir cur × Counted (keeping st text names rows)
-    read-judged w =
-        let b = both-true (counts (keeping st text names rows)) (allInside dir cur) w in
-        (judged-open bytes dir cur h (b .1), counted (keeping st text names rows) (b .0))
+    pub read-judged : counts (keeping st text names rows) ≡ true → Open bytes dir cur × Counted (keeping st text names rows)
+    read-judged h =
+        let w = verdict-inside (length bytes) dir cur v in
+        (judged-open bytes dir cur (w .0) (w .1), counted (keeping st text names rows) h)
 
-    pub read-is : {o : Outcome} → both (counts (keeping st text names rows)) (allInside dir cur) ≡ true → o ≡ nextOf (source bytes dir cur) (keeping st text names rows)
+    pub read-is : {o : Outcome} → counts (keeping st text names rows) ≡ true → o ≡ nextOf (source bytes dir cur) (keeping st text names rows)
         → o ≡ readOf (source bytes dir cur) (keeping st text names rows)
-    read-is w q = let b = read-judged w in q ∙ sym (read-next bytes dir cur text names rows st (b .0) (b .1))
+    read-is h q = let b = read-judged h in q ∙ sym (read-next bytes dir cur text names rows st (b .0) (b .1))
 
 -- the reads of a block
 kept-on : (rest : Outcome → Outcome) (o : Outcome) (a : Answer) → isKept a ≡ true → goOn rest o a ≡ rest o
@@ -79,41 +89,50 @@ kept-more m o (answer.Kept n) e q h = h n e
 kept-more m o answer.Done e q h = absurd (never q)
 kept-more m o (answer.Refused r) e q h = absurd (never q)
 
--- where the next read starts: the block is open, the counts are judged, every kept name fits, and the reads left make the whole
-pub record Reads (bytes dir : List ℕ) (all : Outcome) (cur : List ℕ) (m : Kept) : Type 0 where
+-- where the next read starts: the block is open, the counts are judged, what is known of the kept names is, and the reads left make all of them, or it is the one
+pub record Reads (bytes dir : List ℕ) (whole : Bool) (all : Outcome) (cur : List ℕ) (m : Kept) : Type 0 where
   pub opened : Open bytes dir cur
   pub counted : Counted m
-  pub fits : AllFit m
-  pub goes : readsFrom bytes dir (m .state .count - m .state .names + 1) (fresh cur m) ≡ all
+  pub known : Known whole m
+  pub goes : pick whole (readsFrom bytes dir (m .state .count - m .state .names + 1) (fresh cur m)) (nextOf (source bytes dir cur) m) ≡ all
 
-module _ (bytes dir : List ℕ) (all : Outcome) (cur text names rows : List ℕ) (st : State) (i : Reads bytes dir all cur (keeping st text names rows))
+module _ (bytes dir : List ℕ) (whole : Bool) (all : Outcome) (cur text names rows : List ℕ) (st : State) (i : Reads bytes dir whole all cur (keeping st text names rows))
     (o : Outcome) (e : o ≡ nextOf (source bytes dir cur) (keeping st text names rows)) where
-  one : goOn (readsFrom bytes dir (st .count - st .names)) o (o .answer) ≡ all
+  one : whole ≡ true → goOn (readsFrom bytes dir (st .count - st .names)) o (o .answer) ≡ all
   unfolding readsFrom
-  one =
+  one y =
       let n = read-next bytes dir cur text names rows st (i .opened) (i .counted) in
-      let g = rw add-one at (i .goes) in
+      let g = rw add-one at (sym (pick-true _ _ y) ∙ i .goes) in
       rw (e, ← n) g
 
   holds : Holds bytes dir (keeping st text names rows) o
   holds = rw e (next-holds bytes dir cur text names rows st (i .opened) (i .counted))
 
-  pub reads-out : isKept (o .answer) ≡ false → o ≡ all
-  reads-out q = sym (kept-out (readsFrom bytes dir (st .count - st .names)) o (o .answer) q) ∙ one
+  pub reads-out : both whole (isKept (o .answer)) ≡ false → o ≡ all
+  reads-out q =
+      by-test whole
+      (λ y. sym (kept-out (readsFrom bytes dir (st .count - st .names)) o (o .answer) (sym (pick-true (isKept (o .answer)) false y) ∙ q)) ∙ one y)
+      (λ y. e ∙ sym (pick-false _ _ y) ∙ i .goes)
 
   more : isKept (o .answer) ≡ true → More (keeping st text names rows) o
   more q = kept-more (keeping st text names rows) o (o .answer) refl q (holds .more)
 
-  pub reads-less : isKept (o .answer) ≡ true → o .kept .state .count - o .kept .state .names < st .count - st .names
-  reads-less q = let w = more q in omega (arith, w .few, w .names, w .count)
+  pub reads-less : both whole (isKept (o .answer)) ≡ true → o .kept .state .count - o .kept .state .names < st .count - st .names
+  reads-less q = let w = more (both-true whole (isKept (o .answer)) q .1) in omega (arith, w .few, w .names, w .count)
 
-  pub reads-on : isKept (o .answer) ≡ true → Reads bytes dir all (o .cur) (o .kept)
+  pub reads-on : both whole (isKept (o .answer)) ≡ true → Reads bytes dir whole all (o .cur) (o .kept)
   unfolding readsFrom
   reads-on q =
-      let w = more q in
+      let b = both-true whole (isKept (o .answer)) q in
+      let w = more (b .1) in
       let f : st .count - st .names ≡ suc (o .kept .state .count - o .kept .state .names) = omega (arith, w .few, w .names, w .count) in
-      let g = sym (kept-on (readsFrom bytes dir (st .count - st .names)) o (o .answer) q) ∙ one in
-      record { opened = holds .opened; counted = holds .counted; fits = holds .fits (i .fits); goes = rw add-one (rw f at g) }
+      let g = sym (kept-on (readsFrom bytes dir (st .count - st .names)) o (o .answer) (b .1)) ∙ one (b .0) in
+      record {
+        opened = holds .opened;
+        counted = holds .counted;
+        known = λ z. let k = i .known z in (holds .fits (k .0), holds .spelt (k .0) (k .1));
+        goes = pick-true _ _ (b .0) ∙ rw add-one (rw f at g);
+      }
 
 -- a whole block
 module _ (bytes dir cur text names rows : List ℕ) (st : State) (count : ℕ) where
@@ -123,10 +142,11 @@ module _ (bytes dir cur text names rows : List ℕ) (st : State) (count : ℕ) w
   block-refused q e = rw (← q, e)
 
   pub block-starts : {s : State} {cur' : List ℕ} {a : Opened} → opening a cur' ≡ openOf (length bytes) dir count cur → a ≡ opened.Fresh s
-      → Open bytes dir cur' × (Counted (keeping s text names rows) × AllFit (keeping s text names rows))
+      → Open bytes dir cur' × (Counted (keeping s text names rows) × Known true (keeping s text names rows))
   block-starts {s} {cur'} q e =
       let p = sym q ∙ ap (λ (x : Opened). opening x cur') e in
-      let c = accepted (length bytes) dir count cur p in (
+      let c = accepted (length bytes) dir count cur p in
+      let none : (i : ℕ) → i < s .names → ⊥ = λ i l. omega (arith, ap (λ (x : State). x .names) (c .state)) in (
         accepted-open bytes dir count cur p,
         (
           rw (c .state)
@@ -139,7 +159,7 @@ module _ (bytes dir cur text names rows : List ℕ) (st : State) (count : ℕ) w
                 rowsUsed = omega arith;
                 rowsMost = omega arith;
               }),
-          λ i l. absurd (omega (arith, ap (λ (x : State). x .names) (c .state))),
+          λ q. (λ i l. absurd (none i l), λ i l. absurd (none i l)),
         ),
       )
 

@@ -11,17 +11,18 @@ use Rattle.base.specs.Choice.{pick}
 use Rattle.base.proofs.Choice.{took, left}
 use Rattle.spans.specs.declared.Distance.{Distance}
 use Rattle.block.specs.declared.State.{State}
-use Rattle.block.specs.Block.{allAtEnd, sound, allInside}
+use Rattle.block.specs.Block.{allAtEnd}
 use Rattle.kept.specs.declared.Entry.{Entry}
 use Rattle.kept.specs.Tables.{Kept, keeping, entryAt}
-use Rattle.kept.specs.Judgement.{counts, earlierFits}
+use Rattle.kept.specs.Judgement.{earlierFits}
 use Rattle.kept.specs.Inside.{Counted, RowsInside}
 use Rattle.kept.proofs.Laws.{earlier, earlier-text}
 use Rattle.kept.specs.Inside as inside
 use Rattle.steps.specs.Source.{Source, source, Earlier}
 use Rattle.steps.specs.Source as steps
 use Rattle.steps.specs.Sound.{Rows}
-use Rattle.steps.proofs.Laws.{rows-none, rows-judged}
+use Rattle.steps.proofs.Laws.{rows-judged}
+use Rattle.names.specs.Repeats.{Repeats}
 use Rattle.reading.specs.declared.Head.{Head}
 use Rattle.reading.specs.declared.Head.the-variants as head
 use Rattle.reading.specs.declared.Reading.{Reading}
@@ -30,59 +31,54 @@ use Rattle.reading.specs.declared.Answer.{Answer}
 use Rattle.reading.specs.declared.Answer.the-variants as answer
 use Rattle.reading.specs.Fits.{Known}
 use Rattle.reading.specs.Heads.{Headed}
-use Rattle.reading.specs.Reads.{Outcome, outcome, reading, finishing, refusing, refusingPlain, plain, atName, dupOf, diffOf, none, rowsOf, entryBack, dupJudged, diffJudged, headedOf, headOf, nextOf, readOf}
-use Rattle.reading.proofs.Entries.{refused-at}
+use Rattle.reading.specs.Reads.{Outcome, outcome, reading, finishing, refusing, plain, dupOf, rowsOf, entryBack, dupJudged, diffJudged, headedOf, headOf, nextOf}
+use Rattle.reading.proofs.Entries.{back-entry, refused-at}
 
--- the earlier name, as the judgement found it
-module _ (st : State) (text names rows : List ℕ) (d : ℕ) (c : Counted (keeping st text names rows)) (far : 1 ≤ d) (near : d ≤ st .names) where
-  pub back-asks : (5 * (st .names - d) + 5 ≤ length names) × (5 * st .rows ≤ length rows)
+-- an earlier name, as the judgement found it
+module _ (st : State) (text names rows : List ℕ) (i : ℕ) (c : Counted (keeping st text names rows)) (near : i < st .names) where
+  pub back-asks : (5 * i + 5 ≤ length names) × (5 * st .rows ≤ length rows)
   back-asks = (omega (arith, c .entries), c .rowsUsed)
 
-  pub back-fits : {r : Bool} {t : Bool} → r ≡ earlierFits (keeping st [] names rows) (st .names - d) → r ≡ t → earlierFits (keeping st text names rows) (st .names - d) ≡ t
-  back-fits e q = sym (earlier-text st [] text names rows (st .names - d)) ∙ sym e ∙ q
+  pub back-fits : {r : Bool} {t : Bool} → r ≡ earlierFits (keeping st [] names rows) i → r ≡ t → earlierFits (keeping st text names rows) i ≡ t
+  back-fits e q = sym (earlier-text st [] text names rows i) ∙ sym e ∙ q
 
-  -- where all fit, so does the earlier one
-  pub back-known : {b : Bool} → Known b (keeping st text names rows) → b ≡ true → earlierFits (keeping st [] names rows) (st .names - d) ≡ true
-  back-known f q = earlier-text st [] text names rows (st .names - d) ∙ f q (st .names - d) (omega arith)
+  -- where all fit, so does this one
+  pub back-known : {b : Bool} → Known b (keeping st text names rows) → b ≡ true → earlierFits (keeping st [] names rows) i ≡ true
+  back-known f q = earlier-text st [] text names rows i ∙ f q .0 i near
 
-  pub back-inside : earlierFits (keeping st text names rows) (st .names - d) ≡ true → inside.Earlier (keeping st text names rows) (st .names - d)
-  back-inside h = earlier (keeping st text names rows) (st .names - d) h
+  -- and its rows are spelt
+  pub back-spelt : {b : Bool} → Known b (keeping st text names rows) → {e : Entry} → e ≡ entryAt names i → Repeats b (steps.earlier text rows (e .first) (e .rows))
+  unfolding rowsOf
+  back-spelt f {e} q t = rw q (f t .1 i near)
 
-  pub back-rows : earlierFits (keeping st text names rows) (st .names - d) ≡ true → {e : Entry} → e ≡ entryAt names (st .names - d)
+  pub back-inside : earlierFits (keeping st text names rows) i ≡ true → inside.Earlier (keeping st text names rows) i
+  back-inside h = earlier (keeping st text names rows) i h
+
+  pub back-rows : earlierFits (keeping st text names rows) i ≡ true → {e : Entry} → e ≡ entryAt names i
       → Rows (st .text) (steps.earlier text rows (e .first) (e .rows)) × (e .first + e .rows ≤ st .rows)
   back-rows h {e} q =
       let f = back-inside h in
-      rw q (rows-judged st text rows (entryAt names (st .names - d)) (c .rowsUsed) (c .used) f, f .rows .ends)
+      rw q (rows-judged st text rows (entryAt names i) (c .rowsUsed) (c .used) f, f .rows .ends)
 
-  pub back-text : earlierFits (keeping st text names rows) (st .names - d) ≡ true → {e : Entry} → e ≡ entryAt names (st .names - d) → inside.TextInside st e
+  pub back-text : earlierFits (keeping st text names rows) i ≡ true → {e : Entry} → e ≡ entryAt names i → inside.TextInside st e
   back-text h {e} q = rw q (back-inside h .text)
 
 module _ (bytes dir cur text names rows : List ℕ) (st : State) (d : ℕ) where
-  pub dup-fit : earlierFits (keeping st text names rows) (st .names - d) ≡ true → {e : Entry} → e ≡ entryAt names (st .names - d) → {o : Outcome}
-      → o ≡ dupOf (source bytes dir cur) (keeping st text names rows) d e → o ≡ dupJudged (source bytes dir cur) (keeping st text names rows) d
-  unfolding entryBack
-  dup-fit h q r = took _ _ h (r ∙ ap (dupOf (source bytes dir cur) (keeping st text names rows) d) q)
+  -- it is the one so far back
+  module _ {i : ℕ} where
+    far-fits : i ≡ st .names - d → {t : Bool} → earlierFits (keeping st text names rows) i ≡ t → earlierFits (keeping st text names rows) (st .names - d) ≡ t
+    far-fits s h = rw s at h
 
-  pub dup-unfit : earlierFits (keeping st text names rows) (st .names - d) ≡ false → {r : Reading} → r ≡ refusing st 13
-      → outcome (r .answer) cur (keeping (r .state) text names rows) ≡ dupJudged (source bytes dir cur) (keeping st text names rows) d
-  dup-unfit h q = left _ _ h (refused-at bytes dir cur text names rows st 13 q)
+    far-entry : i ≡ st .names - d → {e : Entry} → e ≡ entryAt names i → e ≡ entryBack (keeping st text names rows) d
+    far-entry s q = q ∙ ap (entryAt names) s ∙ sym (back-entry (keeping st text names rows) d)
 
-  pub diff-first : d ≡ 0 → {o : Outcome} → o ≡ diffOf (source bytes dir cur) (keeping st text names rows) d (steps.earlier text rows 0 0)
-      → o ≡ diffJudged (source bytes dir cur) (keeping st text names rows) d
-  unfolding none
-  diff-first z r = took _ _ (eq-eqb _ _ z) (r ∙ ap (λ (x : ℕ). diffOf (source bytes dir cur) (keeping st text names rows) x (steps.earlier text rows 0 0)) z)
+    pub dup-fit : earlierFits (keeping st text names rows) i ≡ true → {e : Entry} → e ≡ entryAt names i → {o : Outcome}
+        → o ≡ dupOf (source bytes dir cur) (keeping st text names rows) d e → i ≡ st .names - d → o ≡ dupJudged (source bytes dir cur) (keeping st text names rows) d
+    dup-fit h q r s = took _ _ (far-fits s h) (r ∙ ap (dupOf (source bytes dir cur) (keeping st text names rows) d) (far-entry s q))
 
-  pub diff-fit : (d ≡ 0 → ⊥) → earlierFits (keeping st text names rows) (st .names - d) ≡ true → {e : Entry} → e ≡ entryAt names (st .names - d) → {o : Outcome}
-      → o ≡ diffOf (source bytes dir cur) (keeping st text names rows) d (steps.earlier text rows (e .first) (e .rows))
-      → o ≡ diffJudged (source bytes dir cur) (keeping st text names rows) d
-  unfolding rowsOf entryBack
-  diff-fit z h q r =
-      left _ _ (ne-eqb _ _ z)
-      (took _ _ h (r ∙ ap (λ (x : Entry). diffOf (source bytes dir cur) (keeping st text names rows) d (steps.earlier text rows (x .first) (x .rows))) q))
-
-  pub diff-unfit : (d ≡ 0 → ⊥) → earlierFits (keeping st text names rows) (st .names - d) ≡ false → {r : Reading} → r ≡ refusing st 13
-      → outcome (r .answer) cur (keeping (r .state) text names rows) ≡ diffJudged (source bytes dir cur) (keeping st text names rows) d
-  diff-unfit z h q = left _ _ (ne-eqb _ _ z) (left _ _ h (refused-at bytes dir cur text names rows st 13 q))
+    pub dup-unfit : earlierFits (keeping st text names rows) i ≡ false → {r : Reading} → r ≡ refusing st 13 → i ≡ st .names - d
+        → outcome (r .answer) cur (keeping (r .state) text names rows) ≡ dupJudged (source bytes dir cur) (keeping st text names rows) d
+    dup-unfit h q s = left _ _ (far-fits s h) (refused-at bytes dir cur text names rows st 13 q)
 
 pub finish-done : (st : State) {b : Bool} → b ≡ true → reading answer.Done st ≡ finishing st b
 unfolding finishing

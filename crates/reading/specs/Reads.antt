@@ -12,11 +12,13 @@ use Rattle.spans.specs.declared.NextFour.{NextFour}
 use Rattle.spans.specs.declared.NextFour.the-variants as four
 use Rattle.block.specs.declared.State.{State}
 use Rattle.block.specs.declared.Refusal.the-variants as refusal
-use Rattle.block.specs.Block.{spanOf, sound, allInside, allAtEnd}
+use Rattle.block.specs.Block.{spanOf, sound, allInside, allAtEnd, state}
 use Rattle.kept.specs.declared.Entry.{Entry}
 use Rattle.kept.specs.Tables.{Kept, keeping, room, entryAt}
 use Rattle.kept.specs.Judgement.{counts, earlierFits}
 use Rattle.steps.specs.Source.{Source, Earlier, earlier, byteIn, fourIn}
+use Rattle.reading.specs.declared.Back.{Back}
+use Rattle.reading.specs.declared.Back.the-variants as back
 use Rattle.reading.specs.declared.Head.{Head}
 use Rattle.reading.specs.declared.Head.the-variants as head
 use Rattle.reading.specs.declared.Reading.{Reading}
@@ -32,9 +34,6 @@ pub record Outcome : Type 0 where
 
 abbrev pub outcome : Answer → List ℕ → Kept → Outcome
 outcome a c k = record { answer = a; cur = c; kept = k }
-
-abbrev pub state : ℕ → ℕ → ℕ → ℕ → State
-state c k t r = record { count = c; names = k; text = t; rows = r }
 
 -- a refusal that carries the name being read, and the answer that a name is kept, with the state after each
 abbrev pub reading : Answer → State → Reading
@@ -148,6 +147,12 @@ none m = earlier (m .text) (m .rows) 0 0
 -- the earlier name is the one so far back
 unfoldable pub entryBack : Kept → ℕ → Entry
 entryBack m distance = entryAt (m .names) (m .state .names - distance)
+
+-- the rows that DIFF goes by: none without an earlier name
+unfoldable pub backOf : Kept → ℕ → Back
+backOf m d =
+    pick (eqb d 0) (back.Rows 0 0)
+    (pick (earlierFits m (m .state .names - d)) (back.Rows (entryBack m d .first) (entryBack m d .rows)) back.Outside)
 
 -- 13 for the earlier name's entry and all its rows, for DUP too, comes after 4
 abbrev pub dupJudged : Source → Kept → ℕ → Outcome

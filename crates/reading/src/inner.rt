@@ -1,21 +1,21 @@
 // The inner read: one name, where the block is known to be open and the counts to be judged;
-// the earlier name too, where all that is kept is known to fit: from opening on that stays so.
+// the earlier name too, where all that is kept is known to fit and to be spelt: from opening on that stays so.
 ghost use mathlib.Core.Path.{_≡_};
 ghost use mathlib.Core.Bool.{true};
 ghost use mathlib.Core.List.{List, []};
 ghost use Prim.Native.Nat.{ℕ, _≤_, _+_, _*_};
 ghost use lib.ListN.{length};
-ghost use Rattle.classes.specs.Classes.{classTable};
 ghost use Rattle.block.specs.Block.{allAtEnd};
 ghost use Rattle.block.specs.Open.{Open};
 ghost use Rattle.kept.specs.Tables.{keeping};
 ghost use Rattle.kept.specs.Judgement.{earlierFits};
 ghost use Rattle.kept.specs.Inside.{Counted};
 ghost use Rattle.steps.specs.Source.{source};
-ghost use Rattle.reading.specs.Fits.{Known};
+ghost use Rattle.reading.specs.Fits.{AllFit, Known};
 ghost use Rattle.reading.specs.Heads.{Headed, Passable};
-ghost use Rattle.reading.specs.Reads.{outcome, finishing, dupJudged, diffJudged, nextOf};
+ghost use Rattle.reading.specs.Reads.{outcome, finishing, backOf, dupJudged, diffJudged, nextOf};
 use crate::Answer;
+use crate::Back;
 use crate::Head;
 use crate::Reading;
 use crate::heading;
@@ -64,10 +64,32 @@ fn dup(
     }
 }
 
+// The rows that DIFF goes by: those of the earlier name, judged or known to fit, if there is one.
+fn leans(known: bool, state: State, entries: &[u32], rows: &[u32], distance: Distance) -> Back
+    requires { ⌜ (5 * state .names ≤ length (now entries)) × (5 * state .rows ≤ length (now rows)) ⌝ }
+    requires { ⌜ distance .0 ≤ state .names ⌝ }
+    requires { ⌜ (known ≡ true → AllFit (keeping state [] (now entries) (now rows))) ⌝ }
+    ensures { λ r. ⌜ r ≡ backOf (keeping state [] (now (entries .entry)) (now (rows .entry))) (distance .0) ⌝ }
+{
+    let d = distance.0;
+    if d == 0 {
+        return Back::Rows { first: 0, count: 0 };
+    }
+    let back = state.names - d;
+    if fits_back(known, state, entries, rows, back) {
+        let e = tables::entry_at(entries, back);
+        Back::Rows {
+            first: e.first,
+            count: e.rows,
+        }
+    } else {
+        Back::Outside
+    }
+}
+
 // DIFF, with the earlier name judged or known to fit if there is one.
 fn diff(
     known: bool,
-    table: &[u8; 256],
     bytes: &[u8],
     dir: &[u32],
     cursors: &mut [u32],
@@ -77,17 +99,15 @@ fn diff(
     state: State,
     distance: Distance,
 ) -> Reading
-    requires { ⌜ now table ≡ classTable ⌝ }
     requires { ⌜ Open (now bytes) (now dir) (now cursors) ⌝ }
     requires { ⌜ Counted (keeping state (now text) (now entries) (now rows)) ⌝ }
     requires { ⌜ Headed (source (now bytes) (now dir) (now cursors)) 6 (distance .0) (state .names) ⌝ }
     requires { ⌜ Known known (keeping state (now text) (now entries) (now rows)) ⌝ }
     ensures { λ r. ⌜ outcome (r .answer) (now (cursors .exit)) (keeping (r .state) (now (text .exit)) (now (entries .exit)) (now (rows .exit))) ≡ diffJudged (source (now (bytes .entry)) (now (dir .entry)) (now (cursors .entry))) (keeping state (now (text .entry)) (now (entries .entry)) (now (rows .entry))) (distance .0) ⌝ }
 {
-    let d = distance.0;
-    if d == 0 {
-        return naming::named(
-            table,
+    match leans(known, state, entries, rows, distance) {
+        Back::Rows { first, count } => naming::named(
+            known,
             bytes,
             dir,
             cursors,
@@ -96,28 +116,10 @@ fn diff(
             rows,
             state,
             distance,
-            0,
-            0,
-        );
-    }
-    let back = state.names - d;
-    if fits_back(known, state, entries, rows, back) {
-        let e = tables::entry_at(entries, back);
-        naming::named(
-            table,
-            bytes,
-            dir,
-            cursors,
-            text,
-            entries,
-            rows,
-            state,
-            distance,
-            e.first,
-            e.rows,
-        )
-    } else {
-        naming::refuse(13, state)
+            first,
+            count,
+        ),
+        Back::Outside => naming::refuse(13, state),
     }
 }
 
@@ -141,7 +143,6 @@ fn finish(dir: &[u32], cursors: &[u32], state: State) -> Reading
 
 pub fn next(
     known: bool,
-    table: &[u8; 256],
     bytes: &[u8],
     dir: &[u32],
     cursors: &mut [u32],
@@ -150,7 +151,6 @@ pub fn next(
     rows: &mut [u32],
     state: State,
 ) -> Reading
-    requires { ⌜ now table ≡ classTable ⌝ }
     requires { ⌜ Open (now bytes) (now dir) (now cursors) ⌝ }
     requires { ⌜ Counted (keeping state (now text) (now entries) (now rows)) ⌝ }
     requires { ⌜ Known known (keeping state (now text) (now entries) (now rows)) ⌝ }
@@ -162,18 +162,7 @@ pub fn next(
     }
     match heading::head(bytes, dir, cursors, k) {
         Head::Dup(d) => dup(known, cursors, text, entries, rows, state, d),
-        Head::Diff(d) => diff(
-            known,
-            table,
-            bytes,
-            dir,
-            cursors,
-            text,
-            entries,
-            rows,
-            state,
-            d,
-        ),
+        Head::Diff(d) => diff(known, bytes, dir, cursors, text, entries, rows, state, d),
         Head::Refused(r) => naming::refuse(r, state),
     }
 }

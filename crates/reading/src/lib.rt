@@ -2,22 +2,19 @@
 // What the public calls judge is what the inner read requires, so that a whole block judges it once.
 ghost use mathlib.Core.Path.{_≡_};
 ghost use Prim.Native.Nat.{_+_, _-_};
-ghost use lib.ListN.{length};
-ghost use Rattle.base.specs.Choice.{both};
-ghost use Rattle.classes.specs.Classes.{classTable};
-ghost use Rattle.block.specs.Block.{allInside};
+ghost use Rattle.base.specs.Choice.{pick, both};
 ghost use Rattle.block.specs.Open.{Open};
 ghost use Rattle.kept.specs.Tables.{keeping};
-ghost use Rattle.kept.specs.Judgement.{counts};
 ghost use Rattle.kept.specs.Inside.{Counted};
 ghost use Rattle.steps.specs.Source.{source};
-ghost use Rattle.reading.specs.Fits.{AllFit};
-ghost use Rattle.reading.specs.Reads.{outcome, refusingPlain, readOf};
+ghost use Rattle.reading.specs.Fits.{Known};
+ghost use Rattle.reading.specs.Reads.{outcome, refusingPlain, nextOf, readOf};
 ghost use Rattle.reading.specs.Blocks.{isKept, fresh, readsFrom, blockOf};
 use block::Block;
 use block::Opened;
 use block::Refusal;
 use block::State;
+use block::Verdict;
 use kept::judgement;
 use spans::Distance;
 
@@ -30,6 +27,12 @@ pub enum Head {
     Dup(Distance),
     Diff(Distance),
     Refused(u32),
+}
+
+// The rows that a DIFF goes by: none without an earlier name; `Outside` where the earlier name points there.
+pub enum Back {
+    Rows { first: u32, count: u32 },
+    Outside,
 }
 
 // A read keeps a name and answers its number, or finds the block at its end, or refuses.
@@ -55,25 +58,6 @@ fn refuse_plain(number: u32, state: State) -> Reading
     }
 }
 
-// Refusal 13 for the counts and cursors is given where this is false.
-fn judged(
-    dir: &[u32],
-    cursors: &[u32],
-    text: &[u8],
-    entries: &[u32],
-    rows: &[u32],
-    state: State,
-) -> bool
-    requires { ⌜ (length (now dir) ≡ 2580) × (length (now cursors) ≡ 1290) ⌝ }
-    ensures { λ r. ⌜ r ≡ both (counts (keeping state (now (text .entry)) (now (entries .entry)) (now (rows .entry)))) (allInside (now (dir .entry)) (now (cursors .entry))) ⌝ }
-{
-    if judgement::counts(state, text, entries, rows) {
-        block::inside(dir, cursors)
-    } else {
-        false
-    }
-}
-
 // One name a call.
 pub fn read(
     bytes: &[u8],
@@ -86,25 +70,16 @@ pub fn read(
 ) -> Reading
     ensures { λ r. ⌜ outcome (r .answer) (now (cursors .exit)) (keeping (r .state) (now (text .exit)) (now (entries .exit)) (now (rows .exit))) ≡ readOf (source (now (bytes .entry)) (now (dir .entry)) (now (cursors .entry))) (keeping state (now (text .entry)) (now (entries .entry)) (now (rows .entry))) ⌝ }
 {
-    if block::sound(bytes, dir, cursors) {
-        if judged(dir, cursors, text, entries, rows, state) {
-            let table = classes::table();
-            inner::next(
-                false,
-                &table,
-                bytes,
-                dir,
-                cursors,
-                text,
-                entries,
-                rows,
-                state,
-            )
-        } else {
-            refuse_plain(13, state)
+    match block::judge(bytes, dir, cursors) {
+        Verdict::Unsound => refuse_plain(1, state),
+        Verdict::Outside => refuse_plain(13, state),
+        Verdict::Inside => {
+            if judgement::counts(state, text, entries, rows) {
+                reads(false, bytes, dir, cursors, text, entries, rows, state)
+            } else {
+                refuse_plain(13, state)
+            }
         }
-    } else {
-        refuse_plain(1, state)
     }
 }
 
@@ -118,9 +93,16 @@ fn keeps(a: Answer) -> bool
     }
 }
 
-// Reads until "done" or a refusal, each of them the inner one: what it needs holds again after it.
+fn goes_on(whole: bool, a: Answer) -> bool
+    ensures { λ r. ⌜ r ≡ both whole (isKept a) ⌝ }
+{
+    if whole { keeps(a) } else { false }
+}
+
+// Reads of a whole block, until "done" or a refusal, or one read; each of them the inner one: what it needs holds again after it.
+// Both ways are one function, so that the inner read is called at one place.
 fn reads(
-    table: &[u8; 256],
+    whole: bool,
     bytes: &[u8],
     dir: &[u32],
     cursors: &mut [u32],
@@ -129,27 +111,16 @@ fn reads(
     rows: &mut [u32],
     state: State,
 ) -> Reading
-    requires { ⌜ now table ≡ classTable ⌝ }
     requires { ⌜ Open (now bytes) (now dir) (now cursors) ⌝ }
     requires { ⌜ Counted (keeping state (now text) (now entries) (now rows)) ⌝ }
-    requires { ⌜ AllFit (keeping state (now text) (now entries) (now rows)) ⌝ }
-    ensures { λ r. ⌜ outcome (r .answer) (now (cursors .exit)) (keeping (r .state) (now (text .exit)) (now (entries .exit)) (now (rows .exit))) ≡ readsFrom (now (bytes .entry)) (now (dir .entry)) (state .count - state .names + 1) (fresh (now (cursors .entry)) (keeping state (now (text .entry)) (now (entries .entry)) (now (rows .entry)))) ⌝ }
+    requires { ⌜ Known whole (keeping state (now text) (now entries) (now rows)) ⌝ }
+    ensures { λ r. ⌜ outcome (r .answer) (now (cursors .exit)) (keeping (r .state) (now (text .exit)) (now (entries .exit)) (now (rows .exit))) ≡ pick whole (readsFrom (now (bytes .entry)) (now (dir .entry)) (state .count - state .names + 1) (fresh (now (cursors .entry)) (keeping state (now (text .entry)) (now (entries .entry)) (now (rows .entry))))) (nextOf (source (now (bytes .entry)) (now (dir .entry)) (now (cursors .entry))) (keeping state (now (text .entry)) (now (entries .entry)) (now (rows .entry)))) ⌝ }
 {
     let mut so_far = state;
     loop {
-        let r = inner::next(
-            true,
-            table,
-            bytes,
-            dir,
-            cursors,
-            text,
-            entries,
-            rows,
-            so_far,
-        );
+        let r = inner::next(whole, bytes, dir, cursors, text, entries, rows, so_far);
         let answer = r.answer;
-        if keeps(answer) {
+        if goes_on(whole, answer) {
             so_far = r.state;
         } else {
             return r;
@@ -172,10 +143,7 @@ pub fn read_block(
 {
     let b = Block { count: count };
     match b.open(bytes, dir, cursors) {
-        Opened::Fresh(start) => {
-            let table = classes::table();
-            reads(&table, bytes, dir, cursors, text, entries, rows, start)
-        }
+        Opened::Fresh(start) => { reads(true, bytes, dir, cursors, text, entries, rows, start) }
         Opened::Refused(r) => Reading {
             answer: Answer::Refused(r),
             state: state,

@@ -4,12 +4,12 @@ ghost use mathlib.Core.List.{List};
 ghost use Prim.Native.Nat.{ℕ, _≤_, _<_, _+_, _*_, _^_};
 ghost use lib.ListN.{length};
 ghost use Rattle.base.specs.Memory.{written};
-ghost use Rattle.classes.specs.Classes.{classTable};
 ghost use Rattle.block.specs.Open.{Open};
 ghost use Rattle.kept.specs.Tables.{keeping};
 ghost use Rattle.kept.specs.Inside.{Counted, TextInside};
 ghost use Rattle.steps.specs.Source.{source, earlier};
 ghost use Rattle.steps.specs.Sound.{Rows};
+ghost use Rattle.names.specs.Repeats.{Repeats};
 ghost use Rattle.reading.specs.Heads.{Headed, Passable};
 ghost use Rattle.reading.specs.Reads.{outcome, roomOf, entryOf, refusing, keepingName, dupOf, diffOf};
 use crate::Answer;
@@ -20,8 +20,7 @@ use block::State;
 use block::stream;
 use kept::Entry;
 use names::Judged;
-use names::judging;
-use names::keeping;
+use names::walking;
 use spans::Distance;
 
 // A refusal that carries the number of the name being read.
@@ -48,10 +47,10 @@ fn has_room(
     if text.len() < (state.text as usize) + (bytes as usize) + 1 {
         return false;
     }
-    if entries.len() / 5 < (state.names as usize) + 1 {
+    if entries.len() < 5 * ((state.names as usize) + 1) {
         return false;
     }
-    (state.rows as usize) + (added as usize) <= rows.len() / 5
+    5 * ((state.rows as usize) + (added as usize)) <= rows.len()
 }
 
 // The entry and the state of a name whose text and rows are kept.
@@ -119,9 +118,9 @@ pub fn copied(
     }
 }
 
-// Rule 4, over the rows of an earlier name that was judged.
+// Rule 4, over the rows of an earlier name that was judged: walked to judge it, and once more to keep it.
 pub fn named(
-    table: &[u8; 256],
+    known: bool,
     bytes: &[u8],
     dir: &[u32],
     cursors: &mut [u32],
@@ -133,36 +132,45 @@ pub fn named(
     first: u32,
     count: u32,
 ) -> Reading
-    requires { ⌜ now table ≡ classTable ⌝ }
     requires { ⌜ Open (now bytes) (now dir) (now cursors) ⌝ }
     requires { ⌜ Counted (keeping state (now text) (now entries) (now rows)) ⌝ }
     requires { ⌜ Rows (state .text) (earlier (now text) (now rows) first count) × (first + count ≤ state .rows) ⌝ }
     requires { ⌜ Headed (source (now bytes) (now dir) (now cursors)) 6 (distance .0) (state .names) ⌝ }
+    requires { ⌜ Repeats known (earlier (now text) (now rows) first count) ⌝ }
     ensures { λ r. ⌜ outcome (r .answer) (now (cursors .exit)) (keeping (r .state) (now (text .exit)) (now (entries .exit)) (now (rows .exit))) ≡ diffOf (source (now (bytes .entry)) (now (dir .entry)) (now (cursors .entry))) (keeping state (now (text .entry)) (now (entries .entry)) (now (rows .entry))) (distance .0) (earlier (now (text .entry)) (now (rows .entry)) first count) ⌝ }
 {
-    match judging::judge(table, bytes, dir, cursors, text, rows, first, count) {
-        Judged::Name {
-            rows: added,
-            length: size,
-        } => {
-            if has_room(state, text, entries, rows, size, added) {
-                heading::move_head(cursors, stream::DIFF);
-                keeping::keep(
-                    bytes,
-                    dir,
-                    cursors,
-                    text,
-                    rows,
-                    first,
-                    count,
-                    state.text,
-                    state.rows,
-                );
-                enter(entries, state, size, added, state.rows, added, distance)
-            } else {
-                refuse(9, state)
+    let mut keeping = false;
+    loop {
+        match walking::walk(
+            keeping,
+            known,
+            bytes,
+            dir,
+            cursors,
+            text,
+            rows,
+            first,
+            count,
+            state.text,
+            state.rows,
+        ) {
+            Judged::Refused(r) => {
+                return refuse(r, state);
+            }
+            Judged::Name {
+                rows: added,
+                length: size,
+            } => {
+                if keeping {
+                    return enter(entries, state, size, added, state.rows, added, distance);
+                }
+                if has_room(state, text, entries, rows, size, added) {
+                    heading::move_head(cursors, stream::DIFF);
+                    keeping = true;
+                } else {
+                    return refuse(9, state);
+                }
             }
         }
-        Judged::Refused(r) => refuse(r, state),
     }
 }

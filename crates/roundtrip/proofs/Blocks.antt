@@ -1,13 +1,15 @@
 -- Read after read: from what is reached, the reads keep all names that are left, and then the block is done.
 use Prim.Native.Nat.{ℕ, zero, suc, _+_, _≤_, _<_}
-use mathlib.Core.Path.{_≡_, refl, ap, _∙_, subst}
+use mathlib.Core.Path.{_≡_, refl, sym, ap, _∙_, subst}
 use mathlib.Core.List.{List, [], _∷_, _++_}
 use native.Mathlib.Omega.{arith}
 use native.Mathlib.Nat.{add-zero}
 use lib.ListN.{length, getD, length-append}
+use Rattle.base.proofs.Holding.{Holds, holds-none, holds-join, holds-same}
 use Rattle.block.specs.declared.State.{State}
 use Rattle.block.specs.Block.{state, endOf}
 use Rattle.kept.specs.Tables.{Kept}
+use Rattle.kept.proofs.Later.{Later, later-same, later-then}
 use Rattle.steps.specs.Source.{source}
 use Rattle.reading.specs.declared.Answer.{Answer}
 use Rattle.reading.specs.declared.Answer.the-variants as answer
@@ -15,8 +17,7 @@ use Rattle.reading.specs.Reads.{Outcome, outcome, readOf}
 use Rattle.reading.specs.Blocks.{goOn, readsFrom}
 use Rattle.roundtrip.specs.Room.{listed, textWanted, rowsAdded, rowsFor}
 use Rattle.roundtrip.specs.Back.{NameIs, RowsAre, readTimes}
-use Rattle.roundtrip.proofs.Holding.{Holds, holds-none, holds-join, holds-same}
-use Rattle.roundtrip.proofs.Keeping.{Stays, stays-then, stays-none, stays-name, stays-rows}
+use Rattle.roundtrip.proofs.Keeping.{stays-name, stays-rows}
 use Rattle.roundtrip.proofs.Reading.{Reached, ReadBack, done-back, read-back}
 
 -- kept name i and those after it are these
@@ -33,20 +34,20 @@ names-at m (s ∷ ss) i a (suc j) h =
     subst (λ (n : ℕ). NameIs m n (getD ss j []) × RowsAre m n (getD ss j [])) e (names-at m ss (i + 1) (a .1) j (omega arith))
 
 -- all names that were left are kept
-pub record Whole (m : Kept) (before : List ℕ) (todo : List (List ℕ)) (o : Outcome) : Type 0 where
+pub record Whole (m : Kept) (before : List ℕ) (coming : List (List ℕ)) (o : Outcome) : Type 0 where
   pub answer : o .answer ≡ answer.Done
-  pub stays : Stays m (o .kept)
-  pub each : NamesAre (o .kept) (m .state .names) todo
-  pub text : Holds (o .kept .text) (m .state .text) (listed todo)
+  pub stays : Later m (o .kept)
+  pub each : NamesAre (o .kept) (m .state .names) coming
+  pub text : Holds (o .kept .text) (m .state .text) (listed coming)
   pub counts : o .kept .state
-      ≡ state (m .state .count) (m .state .names + length todo) (m .state .text + textWanted todo) (m .state .rows + rowsFor (m .state .names) before todo)
+      ≡ state (m .state .count) (m .state .names + length coming) (m .state .text + textWanted coming) (m .state .rows + rowsFor (m .state .names) before coming)
 
 whole-none : (cur : List ℕ) (m : Kept) (before : List ℕ) → Whole m before [] (outcome answer.Done cur m)
 unfolding NamesAre listed textWanted rowsFor
 whole-none cur m before =
     record {
       answer = refl;
-      stays = stays-none m;
+      stays = later-same m;
       each = tt;
       text = holds-none (m .text) (m .state .text);
       counts = rw (add-zero (m .state .names), add-zero (m .state .text), add-zero (m .state .rows)) refl;
@@ -67,14 +68,14 @@ whole-more bytes dir cur m before s ss b o w =
     let r : m .state .rows + rowsAdded k before s + rowsFor (k + 1) s ss ≡ m .state .rows + (rowsAdded k before s + rowsFor (k + 1) s ss) = omega arith in
     record {
       answer = w .answer;
-      stays = stays-then m (b .next) (o .kept) (b .stays) (w .stays);
+      stays = later-then m (b .next) (o .kept) (b .stays) (w .stays);
       each = (
         (stays-name (b .next) (o .kept) k s (w .stays) (omega arith) (b .entry), stays-rows (b .next) (o .kept) k s (w .stays) (omega arith) (b .entry)),
         subst (λ (i : ℕ). NamesAre (o .kept) i ss) names (w .each),
       );
       text =
           holds-join (o .kept .text) t (s ++ 10 ∷ []) (listed ss)
-          (holds-same (b .next .text) (o .kept .text) t (s ++ 10 ∷ []) (b .next .state .text) (w .stays .text) (omega arith) (b .text))
+          (holds-same (b .next .text) (o .kept .text) t (s ++ 10 ∷ []) (b .next .state .text) (sym (w .stays .in-text)) (omega arith) (b .text))
           (subst (λ (i : ℕ). Holds (o .kept .text) i (listed ss)) place (w .text));
       counts =
           w .counts
@@ -93,8 +94,8 @@ module _ (bytes dir : List ℕ) (directory : length dir ≡ 2580) (within : (i :
   unfolding readsFrom goOn
   reads-more f a cur m before s ss b = ap (λ (x : Outcome). goOn (readsFrom bytes dir f) x (x .answer)) (b .is)
 
-  pub reads-back : (todo : List (List ℕ)) (f : ℕ) (a : Answer) (cur : List ℕ) (m : Kept) (before : List ℕ) → length todo < f → Reached bytes dir cur m before todo
-      → Whole m before todo (readsFrom bytes dir f (outcome a cur m))
+  pub reads-back : (coming : List (List ℕ)) (f : ℕ) (a : Answer) (cur : List ℕ) (m : Kept) (before : List ℕ) → length coming < f → Reached bytes dir cur m before coming
+      → Whole m before coming (readsFrom bytes dir f (outcome a cur m))
   reads-back [] zero a cur m before h r = absurd (omega arith)
   reads-back [] (suc f) a cur m before h r = rw (reads-done f a cur m before r) (whole-none cur m before)
   reads-back (s ∷ ss) zero a cur m before h r = absurd (omega arith)
@@ -110,15 +111,15 @@ module _ (bytes dir : List ℕ) (directory : length dir ≡ 2580) (within : (i :
   once n a cur m o e = ap (readTimes bytes dir n) e
 
   -- the read after i others keeps name i
-  pub calls-back : (todo : List (List ℕ)) (i : ℕ) (a : Answer) (cur : List ℕ) (m : Kept) (before : List ℕ) → i < length todo → Reached bytes dir cur m before todo
+  pub calls-back : (coming : List (List ℕ)) (i : ℕ) (a : Answer) (cur : List ℕ) (m : Kept) (before : List ℕ) → i < length coming → Reached bytes dir cur m before coming
       → (readTimes bytes dir (suc i) (outcome a cur m) .answer ≡ answer.Kept (m .state .names + i))
-      × NameIs (readTimes bytes dir (suc i) (outcome a cur m) .kept) (m .state .names + i) (getD todo i [])
+      × NameIs (readTimes bytes dir (suc i) (outcome a cur m) .kept) (m .state .names + i) (getD coming i [])
   unfolding readTimes
   calls-back [] i a cur m before h r = absurd (omega arith)
   calls-back (s ∷ ss) zero a cur m before h r =
       let b : ReadBack bytes dir cur m before s ss = read-back bytes dir cur m before directory within s ss r in
       let names : b .next .state .names ≡ m .state .names + 1 = ap (λ (x : State). x .names) (b .counts) in
-      rw (b .is, add-zero (m .state .names)) (refl, stays-name (b .next) (b .next) (m .state .names) s (stays-none (b .next)) (omega arith) (b .entry))
+      rw (b .is, add-zero (m .state .names)) (refl, stays-name (b .next) (b .next) (m .state .names) s (later-same (b .next)) (omega arith) (b .entry))
   calls-back (s ∷ ss) (suc i) a cur m before h r =
       let b : ReadBack bytes dir cur m before s ss = read-back bytes dir cur m before directory within s ss r in
       let names : b .next .state .names ≡ m .state .names + 1 = ap (λ (x : State). x .names) (b .counts) in
@@ -128,8 +129,8 @@ module _ (bytes dir : List ℕ) (directory : length dir ≡ 2580) (within : (i :
       rw (once (suc i) a cur m o (b .is))
       (q .0 ∙ ap answer.Kept e, subst (λ (n : ℕ). NameIs (readTimes bytes dir (suc i) o .kept) n (getD ss i [])) e (q .1))
 
-  pub calls-done : (todo : List (List ℕ)) (a : Answer) (cur : List ℕ) (m : Kept) (before : List ℕ) → Reached bytes dir cur m before todo
-      → readTimes bytes dir (suc (length todo)) (outcome a cur m) .answer ≡ answer.Done
+  pub calls-done : (coming : List (List ℕ)) (a : Answer) (cur : List ℕ) (m : Kept) (before : List ℕ) → Reached bytes dir cur m before coming
+      → readTimes bytes dir (suc (length coming)) (outcome a cur m) .answer ≡ answer.Done
   unfolding readTimes
   calls-done [] a cur m before r = ap (λ (o : Outcome). o .answer) (done-back bytes dir cur m before directory within r)
   calls-done (s ∷ ss) a cur m before r =

@@ -7,13 +7,13 @@ use borrow.Author.Tests.{eqb-true, eqb-false}
 use lib.Dec.{eqb}
 use lib.ListN.{length, length-append, length-set}
 use Rattle.base.proofs.Choice.{by-test}
+use Rattle.base.proofs.Holding.{Holds, holds-left, holds-right}
 use Rattle.block.specs.Block.{startOf, endOf, cursorOf}
 use Rattle.block.specs.Open.{Open}
 use Rattle.block.proofs.Laws.{cursor-set-same, cursor-set-other}
 use Rattle.laying.specs.Puts.{Put, put, contentOf}
 use Rattle.laying.proofs.Passes.{share-same, share-other, content-more}
 use Rattle.names.specs.Names.{past}
-use Rattle.roundtrip.proofs.Holding.{Holds, holds-left, holds-right}
 
 -- What puts add to a span
 

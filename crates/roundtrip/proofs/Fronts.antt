@@ -5,6 +5,7 @@ use mathlib.Core.List.{List, [], _∷_, _++_}
 use native.Mathlib.Omega.{arith}
 use lib.ListN.{length, getD, length-append}
 use Rattle.base.specs.Memory.{part}
+use Rattle.base.proofs.Holding.{holds-part, holds-left}
 use Rattle.spans.specs.Spans.{cursor, fourBytes}
 use Rattle.spans.specs.declared.NextByte.the-variants as byte
 use Rattle.spans.specs.declared.NextFour.the-variants as four
@@ -12,7 +13,6 @@ use Rattle.spans.specs.declared.NextText.the-variants as text
 use Rattle.spans.proofs.Laws.{byte-back, four-back, text-back}
 use Rattle.block.specs.Block.{spanOf, endOf, cursorOf}
 use Rattle.steps.specs.Source.{source, byteIn, fourIn, textIn}
-use Rattle.roundtrip.proofs.Holding.{holds-part, holds-left}
 use Rattle.roundtrip.proofs.Eating.{First}
 
 module _ (bytes dir cur : List ℕ) (p i : ℕ) where

@@ -7,10 +7,10 @@ use native.Mathlib.Omega.{arith}
 use borrow.Author.Tests.{leb-true, eqb-true, eq-eqb, ne-eqb}
 use lib.Dec.{leb, eqb}
 use lib.ListN.{length, getD, length-append}
-use Rattle.base.proofs.Choice.{pick-true, pick-false, both-true, by-test}
+use Rattle.base.specs.Same.{same}
+use Rattle.base.proofs.Choice.{pick-true, pick-false, both-true, by-test, pick-holds}
 use Rattle.classes.specs.Classes.{allAllowed}
-use Rattle.splitting.specs.Choices.{equal, anew}
-use Rattle.steps.proofs.Picks.{pick-holds}
+use Rattle.splitting.specs.Choices.{anew}
 use Rattle.writing.specs.declared.Judged.the-variants.{Fine, Bad}
 use Rattle.writing.specs.Names.{namesAfter, namesOf, ended, goodName, judgedFrom}
 use Rattle.roundtrip.specs.Room.{listed, textWanted, rowsAdded, rowsFor, rowsWanted}
@@ -83,7 +83,7 @@ added-most : (n : ℕ) (before s : List ℕ) → rowsAdded n before s ≤ 127
 unfolding rowsAdded
 added-most n before s =
     pick-holds (λ (x : ℕ). x ≤ 127) (anew n) _ _ (λ t. tokens-most s)
-    (λ t. pick-holds (λ (x : ℕ). x ≤ 127) (equal before s) _ _ (λ u. omega arith) (λ u. tokens-most s))
+    (λ t. pick-holds (λ (x : ℕ). x ≤ 127) (same before s) _ _ (λ u. omega arith) (λ u. tokens-most s))
 
 rows-for-most : (names : List (List ℕ)) (n : ℕ) (before : List ℕ) → rowsFor n before names ≤ 127 * length names
 unfolding rowsFor

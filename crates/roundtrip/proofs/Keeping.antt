@@ -1,29 +1,30 @@
 -- A name that was read is kept: its entry says where it stands, its rows are those of its split, and what was kept before stays.
 use Prim.Native.Nat.{ℕ, _+_, _*_, _≤_, _<_}
-use mathlib.Core.Path.{_≡_, refl, sym, ap, _∙_, subst}
+use mathlib.Core.Path.{_≡_, sym, ap, _∙_, subst}
 use mathlib.Core.Bool.{true}
 use mathlib.Core.List.{List, [], _∷_, _++_}
 use native.Mathlib.Omega.{arith}
 use borrow.Author.Tests.{le-leb}
-use lib.ListN.{length, take, length-append}
+use lib.ListN.{length, length-append}
 use Rattle.base.specs.Memory.{part, written}
 use Rattle.base.proofs.Choice.{pick-true, both-of}
 use Rattle.base.proofs.Memory.{length-written}
+use Rattle.base.proofs.Below.{take-written}
+use Rattle.base.proofs.Holding.{Holds, holds-written, holds-left, holds-part, holds-same, holds-stays}
 use Rattle.block.specs.Block.{state}
-use Rattle.tokens.proofs.Texts.{take-written, same-below}
 use Rattle.kept.specs.declared.Entry.{Entry}
 use Rattle.kept.specs.Tables.{Kept, keeping, entryAt}
 use Rattle.kept.specs.Judgement.{earlierFits}
 use Rattle.kept.specs.Inside.{Counted, TextInside, RowsInside}
 use Rattle.kept.proofs.Laws.{room-of, entry-text-of, entry-rows-of}
-use Rattle.kept.proofs.Frame.{Alike, entry-alike, alike-written}
+use Rattle.kept.proofs.Frame.{entry-holds}
+use Rattle.kept.proofs.Later.{Later, entry-later}
 use Rattle.steps.specs.Source.{Source, earlier}
 use Rattle.names.specs.Names.{Draft}
 use Rattle.reading.specs.declared.Answer.the-variants as answer
 use Rattle.reading.specs.Reads.{outcome, roomFor, kept, keepOf}
 use Rattle.roundtrip.specs.Rows.{splitRows, tokensIn}
 use Rattle.roundtrip.specs.Back.{NameIs, RowsAre}
-use Rattle.roundtrip.proofs.Holding.{Holds, holds-written, holds-left, holds-at, holds-first, holds-part, holds-same, holds-stays}
 use Rattle.roundtrip.proofs.Spelling.{Good, RowsOf, rows-of-fit, tokens-some, tokens-most, length-split}
 
 -- entry i says that name i is s; all that it points to is kept
@@ -54,45 +55,22 @@ entry-text m i s is =
     let a : ℕ = entryAt (m .names) i .start in
     ap (λ (n : ℕ). part (m .text) a (a + n)) (is .size) ∙ holds-part (m .text) a s (is .text)
 
--- what was kept stays
-pub record Stays (m n : Kept) : Type 0 where
-  pub texts : m .state .text ≤ n .state .text
-  pub entries : m .state .names ≤ n .state .names
-  pub text : take (m .state .text) (m .text) ≡ take (m .state .text) (n .text)
-  pub names : Alike (m .names) (n .names) (m .state .names)
-  pub used : m .state .rows ≤ n .state .rows
-  pub rows : take (5 * m .state .rows) (m .rows) ≡ take (5 * m .state .rows) (n .rows)
-
-pub stays-then : (a b c : Kept) → Stays a b → Stays b c → Stays a c
-stays-then a b c p q =
-    record {
-      texts = omega (arith, p .texts, q .texts);
-      entries = omega (arith, p .entries, q .entries);
-      text = p .text ∙ same-below (b .text) (c .text) (b .state .text) (q .text) (a .state .text) (p .texts);
-      names = λ j h. p .names j h ∙ q .names j (omega (arith, p .entries));
-      used = omega (arith, p .used, q .used);
-      rows = p .rows ∙ same-below (b .rows) (c .rows) (5 * b .state .rows) (q .rows) (5 * a .state .rows) (omega (arith, p .used));
-    }
-
-pub stays-none : (m : Kept) → Stays m m
-stays-none m = record { texts = omega arith; entries = omega arith; text = refl; names = λ j h. refl; used = omega arith; rows = refl }
-
 -- a name whose entry is kept is still that name
-pub stays-name : (m n : Kept) (i : ℕ) (s : List ℕ) → Stays m n → i < m .state .names → EntryIs m i s → NameIs n i s
+pub stays-name : (m n : Kept) (i : ℕ) (s : List ℕ) → Later m n → i < m .state .names → EntryIs m i s → NameIs n i s
 stays-name m n i s p h is =
-    let q : entryAt (m .names) i ≡ entryAt (n .names) i = entry-alike (m .names) (n .names) (m .state .names) (p .names) i h in
+    let q : entryAt (m .names) i ≡ entryAt (n .names) i = sym (entry-later m n p i h) in
     let a : ℕ = entryAt (m .names) i .start in
     let t : part (n .text) a (a + entryAt (m .names) i .length) ≡ s =
-    ap (λ (k : ℕ). part (n .text) a (a + k)) (is .size) ∙ holds-part (n .text) a s (holds-same (m .text) (n .text) a s (m .state .text) (p .text) (is .below) (is .text)) in
+    ap (λ (k : ℕ). part (n .text) a (a + k)) (is .size) ∙ holds-part (n .text) a s (holds-same (m .text) (n .text) a s (m .state .text) (sym (p .in-text)) (is .below) (is .text)) in
     record {
       size = sym (ap (λ (e : Entry). e .length) q) ∙ is .size;
       text = subst (λ (e : Entry). part (n .text) (e .start) (e .start + e .length) ≡ s) q t;
     }
 
 -- and its rows are those of its split
-pub stays-rows : (m n : Kept) (i : ℕ) (s : List ℕ) → Stays m n → i < m .state .names → EntryIs m i s → RowsAre n i s
+pub stays-rows : (m n : Kept) (i : ℕ) (s : List ℕ) → Later m n → i < m .state .names → EntryIs m i s → RowsAre n i s
 stays-rows m n i s p h is =
-    let q : entryAt (m .names) i ≡ entryAt (n .names) i = entry-alike (m .names) (n .names) (m .state .names) (p .names) i h in
+    let q : entryAt (m .names) i ≡ entryAt (n .names) i = sym (entry-later m n p i h) in
     let f : ℕ = entryAt (m .names) i .first in
     let c : ℕ = entryAt (m .names) i .rows in
     let many : c ≡ tokensIn s = is .rows .many in
@@ -101,11 +79,11 @@ stays-rows m n i s p h is =
     let e : 5 * (f + c) ≡ 5 * f + length (splitRows s o) = omega arith in
     let r : part (n .rows) (5 * f) (5 * (f + c)) ≡ splitRows s o =
     ap (part (n .rows) (5 * f)) e
-    ∙ holds-part (n .rows) (5 * f) (splitRows s o) (holds-same (m .rows) (n .rows) (5 * f) (splitRows s o) (5 * m .state .rows) (p .rows) (omega (arith, is .inside)) (is .rows .rows)) in
+    ∙ holds-part (n .rows) (5 * f) (splitRows s o) (holds-same (m .rows) (n .rows) (5 * f) (splitRows s o) (5 * m .state .rows) (sym (p .in-rows)) (omega (arith, is .inside)) (is .rows .rows)) in
     record {
       many = sym (ap (λ (x : Entry). x .rows) q) ∙ many;
       origin = o;
-      text = holds-part (n .text) o s (holds-same (m .text) (n .text) o s (m .state .text) (p .text) (is .rows .below) (is .rows .text));
+      text = holds-part (n .text) o s (holds-same (m .text) (n .text) o s (m .state .text) (sym (p .in-text)) (is .rows .below) (is .rows .text));
       rows = subst (λ (x : Entry). part (n .rows) (5 * x .first) (5 * (x .first + x .rows)) ≡ splitRows s o) q r;
     }
 
@@ -139,44 +117,29 @@ module _ (m : Kept) (counted : Counted m) (s : List ℕ) (good : Good s) (d : Dr
   abbrev five : List ℕ
   five = m .state .text ∷ length (d .text) ∷ first ∷ many ∷ distance ∷ []
 
-  after-entry : Holds (after .names) (5 * m .state .names) five
-  after-entry = holds-written (m .names) (5 * m .state .names) five (omega arith)
-
-  entry-start : entryAt (after .names) (m .state .names) .start ≡ m .state .text
-  unfolding entryAt
-  entry-start = holds-first (after .names) (5 * m .state .names) (m .state .text) (length (d .text) ∷ first ∷ many ∷ distance ∷ []) after-entry
-
-  entry-length : entryAt (after .names) (m .state .names) .length ≡ length (d .text)
-  unfolding entryAt
-  entry-length = holds-at (after .names) (5 * m .state .names) five after-entry 1 (omega arith)
-
-  entry-first : entryAt (after .names) (m .state .names) .first ≡ first
-  unfolding entryAt
-  entry-first = holds-at (after .names) (5 * m .state .names) five after-entry 2 (omega arith)
-
-  entry-rows : entryAt (after .names) (m .state .names) .rows ≡ many
-  unfolding entryAt
-  entry-rows = holds-at (after .names) (5 * m .state .names) five after-entry 3 (omega arith)
+  after-entry : entryAt (after .names) (m .state .names) ≡ record { start = m .state .text; length = length (d .text); first = first; rows = many; distance = distance }
+  after-entry =
+      entry-holds (after .names) (m .state .names) (m .state .text) (length (d .text)) first many distance (holds-written (m .names) (5 * m .state .names) five (omega arith))
 
   pub after-is : RowsOf (earlier (after .text) (after .rows) first many) (after .state .text) s → first + many ≤ after .state .rows → EntryIs after (m .state .names) s
   after-is rows inside =
       record {
-        size = entry-length ∙ text-length;
-        text = rw entry-start (holds-left (after .text) (m .state .text) s (10 ∷ []) after-text);
-        below = omega (arith, entry-start, text-length);
-        rows = rw (entry-first, entry-rows) rows;
-        inside = omega (arith, entry-first, entry-rows);
+        size = rw after-entry text-length;
+        text = rw after-entry (holds-left (after .text) (m .state .text) s (10 ∷ []) after-text);
+        below = rw after-entry (omega (arith, text-length));
+        rows = rw after-entry rows;
+        inside = rw after-entry inside;
       }
 
-  pub after-stays : Stays m after
+  pub after-stays : Later m after
   after-stays =
       record {
-        texts = omega arith;
-        entries = omega arith;
-        text = sym (take-written (m .text) (m .state .text) (d .text ++ (10 ∷ [])) (m .state .text) (omega arith) (omega arith));
-        names = λ j h. sym (alike-written (m .names) (5 * m .state .names) five (m .state .names) (omega arith) (omega arith) j h);
-        used = omega arith;
-        rows = sym (take-written (m .rows) (5 * m .state .rows) (d .rows) (5 * m .state .rows) (omega arith) (omega arith));
+        names = omega arith;
+        text = omega arith;
+        rows = omega arith;
+        in-text = take-written (m .text) (m .state .text) (d .text ++ (10 ∷ [])) (m .state .text) (omega arith) (omega arith);
+        in-names = take-written (m .names) (5 * m .state .names) five (5 * m .state .names) (omega arith) (omega arith);
+        in-rows = take-written (m .rows) (5 * m .state .rows) (d .rows) (5 * m .state .rows) (omega arith) (omega arith);
       }
 
   ten : length (d .text ++ (10 ∷ [])) ≡ length s + 1

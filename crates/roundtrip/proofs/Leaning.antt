@@ -8,22 +8,22 @@ use borrow.Author.Tests.{ltb-true, ltb-false, eqb-true, eq-eqb}
 use lib.Dec.{ltb, eqb}
 use lib.ListN.{length}
 use Rattle.base.specs.Memory.{part}
-use Rattle.base.proofs.Choice.{both-of}
+use Rattle.base.specs.Same.{same}
+use Rattle.base.proofs.Choice.{both-of, pick-holds}
+use Rattle.base.proofs.Equal.{same-equal}
+use Rattle.base.proofs.Holding.{Holds}
 use Rattle.tokens.specs.declared.Padded.{Padded}
 use Rattle.kept.specs.declared.Row.{Row}
 use Rattle.steps.specs.Source.{Earlier}
 use Rattle.steps.specs.Steps.{hasRow, rowHere, hasKind}
-use Rattle.steps.proofs.Picks.{pick-holds}
 use Rattle.splitting.specs.declared.Piece.{Piece}
 use Rattle.splitting.specs.declared.Piece.the-variants.{String, Char, Digits, Digits0}
 use Rattle.splitting.specs.declared.Rise.{Rise}
 use Rattle.splitting.specs.declared.Choice.{Choice}
 use Rattle.splitting.specs.declared.Choice.the-variants.{Itself, Delta, Delta0, Match, End}
 use Rattle.splitting.specs.Split.{pieceAt}
-use Rattle.splitting.specs.Choices.{equal, riseOf, leanString, leanChar, byRise, leanDigits, byRise0, leanDigits0, lean, choiceAt}
-use Rattle.splitting.proofs.Equal.{equal-eq}
+use Rattle.splitting.specs.Choices.{riseOf, leanString, leanChar, byRise, leanDigits, byRise0, leanDigits0, lean, choiceAt}
 use Rattle.roundtrip.specs.Rows.{pieceBytes, pieceKind, pieceNumber, pieceWidth}
-use Rattle.roundtrip.proofs.Holding.{Holds}
 
 -- a kept row is that of a token of a name
 pub record RowIs (text : List ℕ) (row : Row) (s : List ℕ) (x : Piece) : Type 0 where
@@ -64,8 +64,8 @@ module _ (e : Earlier) (p : ℕ) (s r : List ℕ) (has : hasRow e p ≡ true) wh
   string-right : (a z : ℕ) (y : Piece) → RowIs (e .text) (rowHere e p) r y → Right e p s (String a z) (leanString s a z r y)
   unfolding leanString pieceKind pieceNumber pieceWidth pieceBytes
   string-right a z (String b f) i =
-      pick-holds (Right e p s (String a z)) (equal (part s a z) (part r b f)) Match (Itself (String a z))
-      (λ t. (has, row-same (e .text) (rowHere e p) r s (String b f) (String a z) refl refl refl (sym (equal-eq _ _ t)) i))
+      pick-holds (Right e p s (String a z)) (same (part s a z) (part r b f)) Match (Itself (String a z))
+      (λ t. (has, row-same (e .text) (rowHere e p) r s (String b f) (String a z) refl refl refl (sym (same-equal _ _ t)) i))
       (λ t. refl)
   string-right a z (Char b) i = refl
   string-right a z (Digits n) i = refl

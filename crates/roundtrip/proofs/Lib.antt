@@ -1,4 +1,3 @@
-pub mod Holding
 pub mod Eating
 pub mod Fronts
 pub mod Pieces

@@ -10,14 +10,13 @@ use lib.Dec.{leb, ltb, eqb}
 use lib.ListN.{length, getD, length-append}
 use Rattle.base.specs.Choice.{both}
 use Rattle.base.specs.Memory.{part}
-use Rattle.base.proofs.Choice.{pick-true, pick-false, both-true, by-test}
+use Rattle.base.proofs.Choice.{pick-true, pick-false, both-true, by-test, pick-holds}
 use Rattle.base.proofs.Memory.{length-part, getD-part}
 use Rattle.digits.specs.Digits.{fitsWidth, valueOf, allDigits}
 use Rattle.base.proofs.Every.{every-at}
 use Rattle.base.proofs.Lists.{part-first, part-none}
 use Rattle.digits.proofs.Laws.{value-below, padded-value, printed-value, fits-of, fits-nine}
 use Rattle.classes.specs.Classes.{isAllowed, allAllowed}
-use Rattle.steps.proofs.Picks.{pick-holds}
 use Rattle.splitting.specs.declared.Piece.{Piece}
 use Rattle.splitting.specs.declared.Piece.the-variants.{String, Char, Digits, Digits0}
 use Rattle.splitting.specs.Split.{runClass, runAt, cutAt, textPiece, numberPiece, pieceAt}

@@ -8,8 +8,11 @@ use borrow.Author.Tests.{eqb-true, eqb-false, eq-eqb, ne-eqb}
 use lib.ListN.{length}
 use Rattle.base.specs.Choice.{pick}
 use Rattle.base.specs.Memory.{part}
+use Rattle.base.specs.Same.{same}
 use Rattle.base.proofs.Choice.{pick-true, pick-false, by-test}
+use Rattle.base.proofs.Equal.{same-equal}
 use Rattle.base.proofs.Every.{every-none}
+use Rattle.base.proofs.Holding.{Holds, holds-none}
 use Rattle.classes.specs.Classes.{isAllowed, allAllowed}
 use Rattle.spans.specs.Spans.{fourBytes}
 use Rattle.block.specs.Block.{state, spanOf, endOf}
@@ -17,6 +20,7 @@ use Rattle.block.specs.Open.{Open}
 use Rattle.block.proofs.Laws.{open-sound, open-inside, each-at-end}
 use Rattle.kept.specs.declared.Entry.{Entry}
 use Rattle.kept.specs.Tables.{Kept, entryAt}
+use Rattle.kept.proofs.Later.{Later}
 use Rattle.kept.specs.Judgement.{counts}
 use Rattle.kept.specs.Inside.{Counted}
 use Rattle.kept.proofs.Laws.{counts-of}
@@ -27,34 +31,32 @@ use Rattle.reading.specs.declared.Head.the-variants as head
 use Rattle.reading.specs.declared.Answer.the-variants as answer
 use Rattle.reading.specs.Reads.{outcome, headOf, keepOf, headPast, dupOf, namedOf, diffOf, rowsOf, none, entryBack, headedOf, nextOf, readOf}
 use Rattle.splitting.specs.declared.Reference.the-variants.{Dup, Diff}
-use Rattle.splitting.specs.Choices.{equal, anew, referenceOf, leansOn, choicesOf}
-use Rattle.splitting.proofs.Equal.{equal-eq}
+use Rattle.splitting.specs.Choices.{anew, referenceOf, leansOn, choicesOf}
 use Rattle.laying.specs.Puts.{Put, put}
 use Rattle.writing.specs.NamePuts.{tokenPuts, headPuts, referencePuts, namePuts, putsFrom}
 use Rattle.roundtrip.specs.Rows.{splitRows, tokensIn}
 use Rattle.roundtrip.specs.Room.{textWanted, rowsAdded, rowsFor}
-use Rattle.roundtrip.proofs.Holding.{Holds, holds-none}
 use Rattle.roundtrip.proofs.Eating.{Left, left-open, left-none}
 use Rattle.roundtrip.proofs.Pieces.{rows-out, count-out}
 use Rattle.roundtrip.proofs.Heading.{head-past, head-later, dup-head, first-head, later-head}
 use Rattle.roundtrip.proofs.Spelling.{Good, RowsOf, Spelt, name-back, tokens-most, length-split}
-use Rattle.roundtrip.proofs.Keeping.{EntryIs, entry-fits, entry-text, Stays, after, kept-back, after-text, after-is, after-stays, after-texts, after-names, after-rows, after-counted, rows-new, rows-old}
+use Rattle.roundtrip.proofs.Keeping.{EntryIs, entry-fits, entry-text, after, kept-back, after-text, after-is, after-stays, after-texts, after-names, after-rows, after-counted, rows-new, rows-old}
 
 -- each of the names is one that SAM allows
 unfoldable pub AllGood : List (List ℕ) → Type 0
 AllGood [] = Unit
 AllGood (s ∷ ss) = Good s × AllGood ss
 
--- so far read: the last name kept is `before`, the streams hold what the names `todo` put, and there is room for them
-pub record Reached (bytes dir cur : List ℕ) (m : Kept) (before : List ℕ) (todo : List (List ℕ)) : Type 0 where
-  pub left : Left bytes dir cur (putsFrom (m .state .names) before todo)
+-- so far read: the last name kept is `before`, the streams hold what the names `coming` put, and there is room for them
+pub record Reached (bytes dir cur : List ℕ) (m : Kept) (before : List ℕ) (coming : List (List ℕ)) : Type 0 where
+  pub left : Left bytes dir cur (putsFrom (m .state .names) before coming)
   pub counted : Counted m
-  pub all : m .state .count ≡ m .state .names + length todo
+  pub all : m .state .count ≡ m .state .names + length coming
   pub last : 1 ≤ m .state .names → Good before × EntryIs m (m .state .names - 1) before
-  pub good : AllGood todo
-  pub texts : m .state .text + textWanted todo ≤ length (m .text)
-  pub entries : 5 * (m .state .names + length todo) ≤ length (m .names)
-  pub rows : 5 * (m .state .rows + rowsFor (m .state .names) before todo) ≤ length (m .rows)
+  pub good : AllGood coming
+  pub texts : m .state .text + textWanted coming ≤ length (m .text)
+  pub entries : 5 * (m .state .names + length coming) ≤ length (m .names)
+  pub rows : 5 * (m .state .rows + rowsFor (m .state .names) before coming) ≤ length (m .rows)
 
 -- a read that kept the name s
 pub record ReadBack (bytes dir cur : List ℕ) (m : Kept) (before s : List ℕ) (ss : List (List ℕ)) : Type 0 where
@@ -62,7 +64,7 @@ pub record ReadBack (bytes dir cur : List ℕ) (m : Kept) (before s : List ℕ) 
   pub next : Kept
   pub is : readOf (source bytes dir cur) m ≡ outcome (answer.Kept (m .state .names)) now next
   pub reached : Reached bytes dir now next s ss
-  pub stays : Stays m next
+  pub stays : Later m next
   pub entry : EntryIs next (m .state .names) s
   pub text : Holds (next .text) (m .state .text) (s ++ 10 ∷ [])
   pub counts : next .state ≡ state (m .state .count) (m .state .names + 1) (m .state .text + (length s + 1)) (m .state .rows + rowsAdded (m .state .names) before s)
@@ -74,11 +76,11 @@ module _ (n : ℕ) (before s : List ℕ) where
   unfolding namePuts referenceOf leansOn pick
   puts-first a = rw a
 
-  puts-dup : anew n ≡ false → equal before s ≡ true → namePuts n before s ≡ referencePuts before s (Dup (record { 0 = 1 }))
+  puts-dup : anew n ≡ false → same before s ≡ true → namePuts n before s ≡ referencePuts before s (Dup (record { 0 = 1 }))
   unfolding namePuts referenceOf leansOn pick
   puts-dup a e = rw (a, e)
 
-  puts-diff : anew n ≡ false → equal before s ≡ false → namePuts n before s ≡ referencePuts before s (Diff (record { 0 = 1 }))
+  puts-diff : anew n ≡ false → same before s ≡ false → namePuts n before s ≡ referencePuts before s (Diff (record { 0 = 1 }))
   unfolding namePuts referenceOf leansOn pick
   puts-diff a e = rw (a, e)
 
@@ -86,11 +88,11 @@ module _ (n : ℕ) (before s : List ℕ) where
   unfolding rowsAdded
   added-first a = pick-true _ _ a
 
-  added-dup : anew n ≡ false → equal before s ≡ true → rowsAdded n before s ≡ 0
+  added-dup : anew n ≡ false → same before s ≡ true → rowsAdded n before s ≡ 0
   unfolding rowsAdded
   added-dup a e = pick-false _ _ a ∙ pick-true _ _ e
 
-  added-diff : anew n ≡ false → equal before s ≡ false → rowsAdded n before s ≡ tokensIn s
+  added-diff : anew n ≡ false → same before s ≡ false → rowsAdded n before s ≡ tokensIn s
   unfolding rowsAdded
   added-diff a e = pick-false _ _ a ∙ pick-false _ _ e
 
@@ -110,15 +112,15 @@ module _ (bytes dir cur : List ℕ) (m : Kept) (before : List ℕ) (directory : 
   abbrev src : Source
   src = source bytes dir cur
 
-  opened : (todo : List (List ℕ)) → Reached bytes dir cur m before todo → Open bytes dir cur
-  opened todo r = left-open bytes dir cur (putsFrom (m .state .names) before todo) directory within (r .left)
+  opened : (coming : List (List ℕ)) → Reached bytes dir cur m before coming → Open bytes dir cur
+  opened coming r = left-open bytes dir cur (putsFrom (m .state .names) before coming) directory within (r .left)
 
-  judged : (todo : List (List ℕ)) → Reached bytes dir cur m before todo → readOf src m ≡ nextOf src m
+  judged : (coming : List (List ℕ)) → Reached bytes dir cur m before coming → readOf src m ≡ nextOf src m
   unfolding readOf
-  judged todo r =
-      pick-true _ _ (open-sound bytes dir cur (opened todo r))
+  judged coming r =
+      pick-true _ _ (open-sound bytes dir cur (opened coming r))
       ∙ pick-true _ _ (counts-of m (r .counted))
-      ∙ pick-true _ _ (open-inside bytes dir cur (opened todo r))
+      ∙ pick-true _ _ (open-inside bytes dir cur (opened coming r))
 
   -- with all names read, "done"
   pub done-back : Reached bytes dir cur m before [] → readOf src m ≡ outcome answer.Done cur m
@@ -205,18 +207,18 @@ module _ (bytes dir cur : List ℕ) (m : Kept) (before : List ℕ) (directory : 
           }
 
     -- DUP
-    dup-back : 1 ≤ k → anew k ≡ false → equal before s ≡ true → ReadBack bytes dir cur m before s ss
+    dup-back : 1 ≤ k → anew k ≡ false → same before s ≡ true → ReadBack bytes dir cur m before s ss
     unfolding referencePuts headPuts headedOf dupOf entryBack
     dup-back h a q =
         let l : Left bytes dir cur (put (spanOf 0 0) (5 ∷ []) ∷ put (spanOf 0 5) (fourBytes 1) ∷ putsFrom (k + 1) s ss) = puts _ (puts-dup k before s a q) in
-        let same : before ≡ s = equal-eq before s q in
+        let is : before ≡ s = same-equal before s q in
         let was = r .last h in
         let entry : Entry = entryAt (m .names) (k - 1) in
         let d : Draft = draft (part (m .text) (entry .start) (entry .start + entry .length)) [] 0 (headPast cur 5) in
-        let text : d .text ≡ s = entry-text m (k - 1) before (was .1) ∙ same in
+        let text : d .text ≡ s = entry-text m (k - 1) before (was .1) ∙ is in
         let c : 0 ≡ rowsAdded k before s = sym (added-dup k before s a q) in
         let old : RowsOf (earlier (m .text) (m .rows) (entry .first) (entry .rows)) (m .state .text) s =
-        subst (λ (x : List ℕ). RowsOf (earlier (m .text) (m .rows) (entry .first) (entry .rows)) (m .state .text) x) same (was .1 .rows) in
+        subst (λ (x : List ℕ). RowsOf (earlier (m .text) (m .rows) (entry .first) (entry .rows)) (m .state .text) x) is (was .1 .rows) in
         let f : 0 ≡ 5 * 0 = omega arith in
         kept-read d text f c (omega arith) (entry .first) (entry .rows) 1
         (headed (head.Dup (record { 0 = 1 })) (dup-head bytes dir cur k 1 (omega arith) (putsFrom (k + 1) s ss) (omega arith) h l)
@@ -263,7 +265,7 @@ module _ (bytes dir cur : List ℕ) (m : Kept) (before : List ℕ) (directory : 
         ∙ pick-true _ _ (eq-eqb 0 0 refl))
         (head-past bytes dir cur 6 6 0 (omega arith) (omega arith) (omega arith) (tokenPuts s 1 (choicesOf [] s) ++ putsFrom (k + 1) s ss) l)
 
-    later-back : 1 ≤ k → anew k ≡ false → equal before s ≡ false → ReadBack bytes dir cur m before s ss
+    later-back : 1 ≤ k → anew k ≡ false → same before s ≡ false → ReadBack bytes dir cur m before s ss
     unfolding referencePuts headPuts headedOf rowsOf entryBack
     later-back h a q =
         let l : Left bytes dir cur (put (spanOf 0 0) (6 ∷ []) ∷ put (spanOf 0 6) (fourBytes 1) ∷ (tokenPuts s 1 (choicesOf before s) ++ putsFrom (k + 1) s ss)) =
@@ -283,4 +285,4 @@ module _ (bytes dir cur : List ℕ) (m : Kept) (before : List ℕ) (directory : 
         (λ a.
         let z : k ≡ 0 → ⊥ = eqb-false k 0 a in
         let h : 1 ≤ k = omega (arith, z) in
-        by-test (equal before s) (dup-back h a) (later-back h a))
+        by-test (same before s) (dup-back h a) (later-back h a))

@@ -9,6 +9,7 @@ use lib.ListN.{length, set, length-append}
 use Rattle.base.specs.Choice.{pick}
 use Rattle.base.specs.Memory.{part}
 use Rattle.base.proofs.Choice.{pick-true}
+use Rattle.base.proofs.Holding.{holds-part, holds-first}
 use Rattle.digits.proofs.Laws.{length-padded}
 use Rattle.spans.specs.declared.Cursor.{Cursor}
 use Rattle.spans.specs.declared.NextByte.{NextByte}
@@ -36,7 +37,6 @@ use Rattle.splitting.specs.declared.Choice.{Choice}
 use Rattle.splitting.specs.declared.Choice.the-variants.{Itself, Delta, Delta0, Match, End}
 use Rattle.writing.specs.NamePuts.{typeNumber, pieceType, choiceType, piecePuts}
 use Rattle.roundtrip.specs.Rows.{pieceBytes, pieceKind, pieceNumber, pieceWidth, pieceRow}
-use Rattle.roundtrip.proofs.Holding.{holds-part, holds-first}
 use Rattle.roundtrip.proofs.Eating.{Left, First, first, eat, first-other, past-other, eaten}
 use Rattle.roundtrip.proofs.Fronts.{byte-first, four-first, text-first, text-there}
 use Rattle.roundtrip.proofs.Pieces.{Small}

@@ -12,6 +12,7 @@ use lib.ListN.{length, getD}
 use Rattle.base.specs.Choice.{pick}
 use Rattle.base.specs.Memory.{part}
 use Rattle.base.proofs.Choice.{pick-true, pick-false, both-true, by-test}
+use Rattle.base.proofs.Holding.{holds-part}
 use Rattle.block.specs.declared.State.{State}
 use Rattle.block.specs.declared.Opened.the-variants as opened
 use Rattle.block.specs.declared.Refusal.{Refusal}
@@ -35,7 +36,6 @@ use Rattle.roundtrip.specs.Room.{listed, textWanted, rowsFor, rowsWanted
 use Rattle.roundtrip.specs.Back.{Roomy, NameIs, RowsAre, Back, InputBack, readTimes, OneByOne}
 use Rattle.roundtrip.specs.Layout.{LaidOut}
 use Rattle.roundtrip.specs.Demand.{ReadsBack, ReadsBackAmply, ReadsOneByOne, Opens, LaysOut, Nothing}
-use Rattle.roundtrip.proofs.Holding.{holds-part}
 use Rattle.roundtrip.proofs.Reading.{Reached}
 use Rattle.roundtrip.proofs.Blocks.{names-at, Whole, reads-back, calls-back, calls-done}
 use Rattle.roundtrip.proofs.Spans.{directory-length, start-is, end-is, span-size, ends-within, laid, laid-out, nothing-put}

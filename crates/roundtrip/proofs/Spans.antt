@@ -8,6 +8,7 @@ use lib.ListN.{length, getD, drop}
 use lib.Seq.{getD-at, drop-at}
 use Rattle.base.specs.Memory.{part, written}
 use Rattle.base.proofs.Memory.{length-written}
+use Rattle.base.proofs.Holding.{Holds, holds-written, holds-left, holds-right, holds-part}
 use Rattle.block.specs.Block.{startOf, endOf, starts}
 use Rattle.block.proofs.Laws.{starts-length, starts-cursor}
 use Rattle.laying.specs.Puts.{Put, contentOf, joined, startIn, tableOf, directoryOf, totalOf, bytesOf}
@@ -15,7 +16,6 @@ use Rattle.laying.proofs.Joined.{joined-none, joined-more, joined-at, length-jo
 use Rattle.laying.proofs.Tables.{length-table, end-table}
 use Rattle.writing.specs.NamePuts.{putsFrom, putsOf}
 use Rattle.roundtrip.specs.Layout.{LaidOut}
-use Rattle.roundtrip.proofs.Holding.{Holds, holds-written, holds-left, holds-right, holds-part}
 use Rattle.roundtrip.proofs.Eating.{Left, content-none}
 
 -- a start read from a table of starts and ends

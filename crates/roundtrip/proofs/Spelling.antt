@@ -5,24 +5,26 @@ use mathlib.Core.Bool.{true}
 use mathlib.Core.Logic.{⊎-elim, inl, inr}
 use mathlib.Core.List.{List, [], _∷_, _++_, append-assoc, append-nil}
 use native.Mathlib.Omega.{arith}
-use native.Mathlib.Nat.{add-zero}
 use borrow.Author.Tests.{le-leb, ne-eqb, lt-ltb, le-ltb}
-use lib.ListN.{length, take, getD}
-use lib.Seq.{take-add, take-length, length-take-le}
+use lib.ListN.{length, take}
+use lib.Seq.{take-length, length-take-le}
+use Rattle.base.specs.Every.{every, numbers}
 use Rattle.base.specs.Memory.{part}
 use Rattle.base.proofs.Choice.{pick-true, pick-false, both-of}
+use Rattle.base.proofs.Lists.{take-part}
 use Rattle.base.proofs.Memory.{length-part, getD-part}
 use Rattle.base.proofs.Numbers.{lt-or-ge}
 use Rattle.base.proofs.Every.{every-at, every-of}
+use Rattle.base.proofs.Holding.{Holds, holds-none, holds-left, holds-right, holds-inner}
 use Rattle.classes.specs.Classes.{isAllowed, allAllowed}
-use Rattle.block.specs.Block.{every, spanOf, cursorOf}
+use Rattle.block.specs.Block.{spanOf, cursorOf}
 use Rattle.tokens.specs.declared.Token.{Token}
 use Rattle.tokens.specs.Tokens.{bytesOf}
 use Rattle.kept.specs.declared.Row.{Row}
-use Rattle.kept.specs.Tables.{rowAt}
 use Rattle.kept.specs.Judgement.{rowsFit}
 use Rattle.kept.specs.Inside.{KindInside, RowInside}
 use Rattle.kept.proofs.Laws.{row-fits-of}
+use Rattle.kept.proofs.Frame.{row-holds}
 use Rattle.steps.specs.declared.Step.{Step}
 use Rattle.steps.specs.declared.Step.the-variants as step
 use Rattle.steps.specs.Source.{Source, source, Earlier}
@@ -39,7 +41,6 @@ use Rattle.splitting.specs.Choices.{choiceAt, choicesFrom, choicesOf}
 use Rattle.splitting.proofs.Runs.{cut-range, cut-out, cut-before}
 use Rattle.writing.specs.NamePuts.{choicePuts, tokenPuts}
 use Rattle.roundtrip.specs.Rows.{pieceBytes, pieceKind, pieceNumber, pieceWidth, pieceRow, rowsFrom, countFrom, splitRows, tokensIn}
-use Rattle.roundtrip.proofs.Holding.{Holds, holds-none, holds-left, holds-right, holds-at, holds-inner}
 use Rattle.roundtrip.proofs.Eating.{Left, eaten, left-eaten, eaten-later}
 use Rattle.roundtrip.proofs.Pieces.{Small, piece-cut, piece-length, rows-more, rows-out, count-more, count-out, count-most, length-row, length-rows}
 use Rattle.roundtrip.proofs.Leaning.{RowIs, Here, choice-right}
@@ -60,26 +61,25 @@ module _ (e : Earlier) (origin : ℕ) (r : List ℕ) (allowed : allAllowed r ≡
   both-rows : b < length r → Holds (e .rows) (5 * (e .first + (p - 1))) (pieceRow r (pieceAt r p b) (origin + b) ++ rowsFrom r origin f (p + 1) (cutAt r p b))
   both-rows h = subst (λ (l : List ℕ). Holds (e .rows) (5 * (e .first + (p - 1))) l) (rows-more r f p b origin h) (at .rows)
 
+  row-there : b < length r → let x = pieceAt r p b in
+      rowHere e p ≡ record { kind = pieceKind x; number = pieceNumber x; width = pieceWidth x; start = origin + b; length = length (pieceBytes r x) }
+  unfolding rowHere pieceRow
+  row-there h =
+      row-holds (e .rows) (e .first + (p - 1)) _ _ _ _ _
+      (holds-left (e .rows) (5 * (e .first + (p - 1))) (pieceRow r (pieceAt r p b) (origin + b)) (rowsFrom r origin f (p + 1) (cutAt r p b)) (both-rows h))
+
   row-start : b < length r → rowHere e p .start ≡ origin + b
-  unfolding rowHere rowAt pieceRow
-  row-start h =
-      let i : ℕ = e .first + (p - 1) in
-      let row : List ℕ = pieceRow r (pieceAt r p b) (origin + b) in
-      holds-at (e .rows) (5 * i) row (holds-left (e .rows) (5 * i) row (rowsFrom r origin f (p + 1) (cutAt r p b)) (both-rows h)) 3 (omega arith)
+  row-start h = ap (λ (x : Row). x .start) (row-there h)
 
   row-is : b < length r → RowIs (e .text) (rowHere e p) r (pieceAt r p b)
-  unfolding rowHere rowAt pieceRow
   row-is h =
-      let i : ℕ = e .first + (p - 1) in
-      let row : List ℕ = pieceRow r (pieceAt r p b) (origin + b) in
-      let own : Holds (e .rows) (5 * i) row = holds-left (e .rows) (5 * i) row (rowsFrom r origin f (p + 1) (cutAt r p b)) (both-rows h) in
       let c = cut-range r b h p in
       let inner : Holds (e .text) (origin + b) (part r b (cutAt r p b)) = holds-inner (e .text) origin r b (cutAt r p b) (omega arith) (c .1) text in
       record {
-        kind = ap (λ (n : ℕ). getD (e .rows) n 0) (sym (add-zero (5 * i))) ∙ holds-at (e .rows) (5 * i) row own 0 (omega arith);
-        number = holds-at (e .rows) (5 * i) row own 1 (omega arith);
-        width = holds-at (e .rows) (5 * i) row own 2 (omega arith);
-        length = holds-at (e .rows) (5 * i) row own 4 (omega arith);
+        kind = ap (λ (x : Row). x .kind) (row-there h);
+        number = ap (λ (x : Row). x .number) (row-there h);
+        width = ap (λ (x : Row). x .width) (row-there h);
+        length = ap (λ (x : Row). x .length) (row-there h);
         holds = rw (row-start h, piece-cut r allowed b h p .bytes) inner;
       }
 
@@ -123,10 +123,6 @@ part-allowed s from to h k e =
     (λ i l.
     let n : length (part s from to) ≡ to - from = length-part s from to h k in
     ap isAllowed (getD-part s from to i (omega arith)) ∙ every-at isAllowed s e (from + i) (omega arith))
-
-take-part : (s : List ℕ) (a c : ℕ) → a ≤ c → take a s ++ part s a c ≡ take c s
-unfolding part
-take-part s a c h = let e : a + (c - a) ≡ c = omega arith in sym (ap (λ (n : ℕ). take n s) (sym e) ∙ take-add a (c - a) s)
 
 module _ (bytes dir cur : List ℕ) (e : Earlier) (used origin : ℕ) (r s : List ℕ) (earlier-allowed : allAllowed r ≡ true) (good : Good s)
     (text : Holds (e .text) origin r) (rest : List Put) where
@@ -343,7 +339,7 @@ module _ (e : Earlier) (used origin : ℕ) (r : List ℕ) (allowed : allAllowed 
       record { ends = omega arith; kind = kind-fits (e .text) (rowHere e p) r (pieceAt r p b) (piece-cut r allowed b h p .small) i }
 
   rows-fit-from : (f p b : ℕ) → 1 ≤ p → RowsAt e origin r f p b → rowsFit used (e .rows) (e .first + (p - 1)) (countFrom r f p b) ≡ true
-  unfolding countFrom rowsFit every rowHere
+  unfolding countFrom rowsFit every numbers rowHere
   rows-fit-from zero p b low at = refl
   rows-fit-from (suc f) p b low at =
       ⊎-elim

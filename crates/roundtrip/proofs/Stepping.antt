@@ -6,7 +6,7 @@ use mathlib.Core.List.{List, [], _∷_, _++_}
 use native.Mathlib.Omega.{arith}
 use borrow.Author.Tests.{ne-eqb}
 use lib.Dec.{eqb}
-use Rattle.base.proofs.Choice.{pick-true, both-left}
+use Rattle.base.proofs.Choice.{pick-true, both-left, pick-holds}
 use Rattle.spans.specs.declared.Cursor.{Cursor}
 use Rattle.spans.specs.declared.NextByte.the-variants as byte
 use Rattle.spans.specs.Spans.{cursor}
@@ -18,7 +18,6 @@ use Rattle.tokens.specs.declared.Token.{Token}
 use Rattle.steps.specs.declared.Step.the-variants as step
 use Rattle.steps.specs.Source.{source, Earlier, byteIn}
 use Rattle.steps.specs.Steps.{rowHere, matchAt, valueStep, carries, barred, typedStep, stepAt}
-use Rattle.steps.proofs.Picks.{pick-holds}
 use Rattle.steps.proofs.Ways.{typed-value}
 use Rattle.names.specs.Names.{past, typeIn, valuePast}
 use Rattle.laying.specs.Puts.{Put, put}

@@ -3,7 +3,8 @@ use Prim.Native.Nat.{ℕ, _+_}
 use mathlib.Core.List.{List, [], _∷_, _++_}
 use lib.ListN.{length}
 use Rattle.base.specs.Choice.{pick}
-use Rattle.splitting.specs.Choices.{equal, anew}
+use Rattle.base.specs.Same.{same}
+use Rattle.splitting.specs.Choices.{anew}
 use Rattle.roundtrip.specs.Rows.{tokensIn}
 
 -- each name with its byte 10
@@ -18,7 +19,7 @@ textWanted (s ∷ ss) = length s + 1 + textWanted ss
 
 -- rows that name n adds, after the name before it: none if it is a DUP, else one for each token
 unfoldable pub rowsAdded : ℕ → List ℕ → List ℕ → ℕ
-rowsAdded n before s = pick (anew n) (tokensIn s) (pick (equal before s) 0 (tokensIn s))
+rowsAdded n before s = pick (anew n) (tokensIn s) (pick (same before s) 0 (tokensIn s))
 
 -- rows of the names from name n on
 unfoldable pub rowsFor : ℕ → List ℕ → List (List ℕ) → ℕ

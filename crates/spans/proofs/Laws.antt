@@ -11,7 +11,7 @@ use lib.ListN.{length, getD, List·getD-append}
 use lib.Seq.{getD-append-seam}
 use Rattle.base.specs.Memory.{part}
 use Rattle.base.proofs.Choice.{took, left, pick-true, pick-false, by-test}
-use Rattle.base.proofs.Memory.{getD-part}
+use Rattle.base.proofs.Memory.{part-at}
 use Rattle.base.proofs.Numbers.{lt-or-ge}
 use Rattle.spans.specs.Spans.{cursor, byteAt, four, fourAt, fourBytes, zeroFrom, textEnd, textAt}
 use Rattle.spans.specs.declared.Cursor.{Cursor}
@@ -120,12 +120,6 @@ found-zero bytes (suc n) at end j e f =
     ∙ found-zero bytes n (at + 1) end j (omega arith) (record { low = omega arith; high = f .high; ended = f .ended; inside = λ k a b. f .inside k (omega arith) b }))
     (eq-or-lt-of-le (f .low))
 
-zero-same : (a b : List ℕ) (n at end : ℕ) → at + n ≡ end → ((k : ℕ) → at ≤ k → k < end → getD a k 0 ≡ getD b k 0) → zeroFrom a at n ≡ zeroFrom b at n
-unfolding zeroFrom
-zero-same a b zero at end e s = refl
-zero-same a b (suc n) at end e s =
-    rw (s at (omega arith) (omega arith), zero-same a b n (at + 1) end (omega arith) (λ k p q. s k (omega arith) q))
-
 module _ (bytes : List ℕ) (at end : ℕ) where
   pub end-found : {j : ℕ} → textEnd bytes at end ≡ j → j < end → TextFound bytes at end j
   unfolding textEnd
@@ -169,13 +163,10 @@ module _ (bytes : List ℕ) (at end : ℕ) where
       (λ (o : end ≤ textEnd bytes at end). let r = text-none bytes at end refl o in let z : _≡_ {A = ℕ} 0 1 = cc in absurd (omega arith))
       (lt-or-ge (textEnd bytes at end) end)
 
-  -- bytes below 256, as those of a slice are
-  pub byte-below : {b : ℕ} {next : Cursor} → ((k : ℕ) → getD bytes k 0 < 256) → byteAt bytes at end ≡ byte.Value b next → b < 256
-  byte-below {b} {next} w e = let f = byte-found bytes at end e in omega (arith, w at)
-
-  pub four-below : ((k : ℕ) → getD bytes k 0 < 256) → four bytes at < 2 ^ 32
-  unfolding four
-  four-below w = omega (arith, w at, w (at + 1), w (at + 2), w (at + 3))
+-- of bytes below 256, as those of a slice are
+pub four-below : (bytes : List ℕ) (i : ℕ) → ((k : ℕ) → getD bytes k 0 < 256) → four bytes i < 2 ^ 32
+unfolding four
+four-below bytes i w = omega (arith, w i, w (i + 1), w (i + 2), w (i + 3))
 
 -- the four bytes of a number make it again
 four-whole : (v : ℕ) → v < 2 ^ 32 → v ≡ v % 256 + 256 * (v / 256 % 256) + 65536 * (v / 65536 % 256) + 16777216 * (v / 16777216 % 256)
@@ -189,10 +180,6 @@ four-whole v h =
     let r : v / 16777216 < 256 = div-lt-iff-lt-mul {k = 16777216} {x = v} {y = 256} (omega arith) .1 (omega arith) in
     let s : v / 16777216 % 256 ≡ v / 16777216 = mod-eq-of-lt r in
     omega arith
-
--- an element of a part that is known
-pub part-at : (bytes s : List ℕ) (at to j : ℕ) → part bytes at to ≡ s → j < to - at → getD bytes (at + j) 0 ≡ getD s j 0
-part-at bytes s at to j p h = sym (getD-part bytes at to j h) ∙ ap (λ (l : List ℕ). getD l j 0) p
 
 module _ (bytes : List ℕ) (at end : ℕ) where
   four-part : (v : ℕ) → v < 2 ^ 32 → part bytes at (at + 4) ≡ fourBytes v → v ≡ four bytes at
@@ -226,41 +213,3 @@ module _ (bytes : List ℕ) (at end : ℕ) where
             let r = part-at bytes (s ++ (0 ∷ [])) at (at + length s + 1) (k - at) p (omega arith) ∙ List·getD-append s (0 ∷ []) 0 (k - at) l in
             z (k - at) l (sym r ∙ rw e w);
       })
-
-module _ (a b : List ℕ) (at end : ℕ) (same : (k : ℕ) → at ≤ k → k < end → getD a k 0 ≡ getD b k 0) where
-  -- only the bytes from the cursor to the end matter
-  pub byte-same : byteAt a at end ≡ byteAt b at end
-  byte-same =
-      ⊎-elim
-      (λ (h : end < at + 1). sym (byte-short a at end h) ∙ byte-short b at end h)
-      (λ (h : at + 1 ≤ end). sym (byte-value a at end h refl) ∙ byte-value b at end h (same at (omega arith) (omega arith)))
-      (lt-or-ge end (at + 1))
-
-  four-alike : at + 4 ≤ end → four a at ≡ four b at
-  unfolding four
-  four-alike h =
-      rw (same at (omega arith) (omega arith), same (at + 1) (omega arith) (omega arith), same (at + 2) (omega arith) (omega arith), same (at + 3) (omega arith) (omega arith))
-
-  pub four-same : fourAt a at end ≡ fourAt b at end
-  four-same =
-      ⊎-elim
-      (λ (h : end < at + 4). sym (four-short a at end h) ∙ four-short b at end h)
-      (λ (h : at + 4 ≤ end). sym (four-value a at end h refl) ∙ four-value b at end h (four-alike h))
-      (lt-or-ge end (at + 4))
-
-  end-same : textEnd a at end ≡ textEnd b at end
-  unfolding textEnd
-  end-same =
-      ⊎-elim
-      (λ (h : at < end). zero-same a b (end - at) at end (omega arith) same)
-      (λ (h : end ≤ at). end-out a at end h ∙ sym (end-out b at end h))
-      (lt-or-ge at end)
-
-  pub text-same : textAt a at end ≡ textAt b at end
-  unfolding textAt
-  text-same = rw end-same
-
-pub part-same : (a b : List ℕ) (at end : ℕ) → part a at end ≡ part b at end → (k : ℕ) → at ≤ k → k < end → getD a k 0 ≡ getD b k 0
-part-same a b at end p k h l =
-    let e : at + (k - at) ≡ k = omega arith in
-    ap (λ (n : ℕ). getD a n 0) (sym e) ∙ part-at a (part b at end) at end (k - at) p (omega arith) ∙ getD-part b at end (k - at) (omega arith) ∙ ap (λ (n : ℕ). getD b n 0) e

@@ -1,4 +1,4 @@
 pub mod Cases
 pub mod Runs
-pub mod Equal
+pub mod Cuts
 pub mod Pieces

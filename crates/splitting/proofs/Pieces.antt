@@ -9,6 +9,7 @@ use lib.Dec.{eqb, ltb}
 use lib.ListN.{length, getD}
 use Rattle.base.specs.Choice.{pick}
 use Rattle.base.specs.Memory.{part}
+use Rattle.base.specs.Same.{same}
 use Rattle.base.proofs.Choice.{by-test, pick-true, pick-false}
 use Rattle.tokens.specs.declared.Padded.{Padded}
 use Rattle.splitting.specs.declared.Piece.{Piece}
@@ -17,7 +18,7 @@ use Rattle.splitting.specs.declared.Rise.{Rise}
 use Rattle.splitting.specs.declared.Choice.{Choice}
 use Rattle.splitting.specs.declared.Choice.the-variants.{Itself, Delta, Delta0, Match}
 use Rattle.splitting.specs.Split.{runClass, runAt, cutAt, textPiece, numberPiece, pieceAt}
-use Rattle.splitting.specs.Choices.{Within, ChoiceWithin, equal, riseOf, leanString, leanChar, byRise, leanDigits, byRise0, leanDigits0, lean, choiceAt}
+use Rattle.splitting.specs.Choices.{Within, ChoiceWithin, riseOf, leanString, leanChar, byRise, leanDigits, byRise0, leanDigits0, lean, choiceAt}
 use Rattle.splitting.proofs.Runs.{run-number, cut-last, cut-run, cut-range}
 use Rattle.splitting.specs.declared.Rise.the-variants as rise
 
@@ -63,7 +64,7 @@ module _ (P : Choice → Type 0) (match : P Match) (delta : (d : ℕ) → P (Del
 
   pub lean-cases : (s : List ℕ) (t : Piece) (r : List ℕ) (u : Piece) → P (Itself t) → P (lean s t r u)
   unfolding lean leanString leanChar leanDigits leanDigits0
-  lean-cases s (String a e) r (String b f) q = either-way P (equal (part s a e) (part r b f)) Match (Itself (String a e)) match q
+  lean-cases s (String a e) r (String b f) q = either-way P (same (part s a e) (part r b f)) Match (Itself (String a e)) match q
   lean-cases s (String a e) r (Char b) q = q
   lean-cases s (String a e) r (Digits m) q = q
   lean-cases s (String a e) r (Digits0 y) q = q

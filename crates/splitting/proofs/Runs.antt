@@ -21,6 +21,10 @@ pub digit-run : (b : ℕ) → runClass b ≡ 1 → isDigit b ≡ true
 unfolding runClass
 digit-run b e = by-test (isDigit b) (λ d. d) (λ d. absurd (omega (arith, pick-false {A = ℕ} 1 0 d)))
 
+pub other-run : (b : ℕ) → (runClass b ≡ 1 → ⊥) → runClass b ≡ 0
+unfolding runClass
+other-run b f = by-test (isDigit b) (λ d. absurd (f (pick-true {A = ℕ} 1 0 d))) (λ d. pick-false {A = ℕ} 1 0 d)
+
 module _ (s : List ℕ) (k : ℕ) where
   step : (i n m : ℕ) → m ≡ suc n → runEnd s k i m ≡ pick (eqb (runClass (getD s i 0)) k) (runEnd s k (i + 1) n) i
   unfolding runEnd
@@ -82,7 +86,7 @@ module _ (s : List ℕ) (at : ℕ) (h : at < length s) where
   unfolding runLimit
   limit-other f = pick-false _ _ (ne-eqb _ _ f)
 
-  limit-digits : runClass (getD s at 0) ≡ 1 → (at < runLimit s at) × ((runLimit s at ≤ length s) × (runLimit s at - at ≤ 9))
+  pub limit-digits : runClass (getD s at 0) ≡ 1 → (at < runLimit s at) × ((runLimit s at ≤ length s) × (runLimit s at - at ≤ 9))
   limit-digits e = ⊎-elim (λ l. omega (arith, limit-nine e l)) (λ l. omega (arith, limit-short e l)) (lt-or-ge (at + 9) (length s))
 
   pub limit-range : (at < runLimit s at) × (runLimit s at ≤ length s)
@@ -98,6 +102,13 @@ module _ (s : List ℕ) (at : ℕ) (h : at < length s) where
         run-first s k at (runLimit s at) (l .0) refl,
         omega (arith, run-high s k (runLimit s at - at) at),
       )
+
+  -- the byte that a run begins with isn't asked again
+  pub run-goes : {k to e : ℕ} → runClass (getD s at 0) ≡ k → to ≡ runLimit s at → e ≡ runEnd s k (at + 1) (to - (at + 1)) → e ≡ runAt s at
+  unfolding runAt
+  run-goes {k} {to} {e} c l r =
+      let n : at < to = omega (arith, limit-range .0, l) in
+      rw (c, ← l) (r ∙ run-next s k at to n c)
 
   -- a run of digits has at most 9 bytes, all digits
   pub run-number : runClass (getD s at 0) ≡ 1 → (runAt s at - at ≤ 9) × (allDigits (part s at (runAt s at)) ≡ true)

@@ -1,12 +1,13 @@
 -- The writing rule, "A token equal in kind and values to the earlier row is MATCH": what is written for each token of a name s,
 -- r being the earlier name, whose rows are its own split; r is empty where there is none.
 use Prim.Native.Nat.{ℕ, zero, suc, _+_, _-_, _≤_, _<_}
-use mathlib.Core.Bool.{Bool, true, false}
+use mathlib.Core.Bool.{Bool}
 use mathlib.Core.List.{List, [], _∷_}
 use lib.Dec.{ltb, eqb}
 use lib.ListN.{length}
-use Rattle.base.specs.Choice.{pick, both}
+use Rattle.base.specs.Choice.{pick}
 use Rattle.base.specs.Memory.{part}
+use Rattle.base.specs.Same.{same}
 use Rattle.tokens.specs.declared.Padded.{Padded}
 use Rattle.splitting.specs.declared.Piece.{Piece}
 use Rattle.splitting.specs.declared.Piece.the-variants.{String, Char, Digits, Digits0}
@@ -33,13 +34,6 @@ ChoiceWithin s (Delta0 d) = Unit
 ChoiceWithin s Match = Unit
 ChoiceWithin s End = Unit
 
--- all of the bytes and nothing else
-unfoldable pub equal : List ℕ → List ℕ → Bool
-equal [] [] = true
-equal [] (b ∷ t) = false
-equal (a ∷ s) [] = false
-equal (a ∷ s) (b ∷ t) = both (eqb a b) (equal s t)
-
 -- equal, 1 to 255 above, or neither
 unfoldable pub riseOf : ℕ → ℕ → Rise
 riseOf old new =
@@ -50,7 +44,7 @@ riseOf old new =
 
 -- a STRING after the earlier row
 unfoldable pub leanString : List ℕ → ℕ → ℕ → List ℕ → Piece → Choice
-leanString s a e r (String b f) = pick (equal (part s a e) (part r b f)) Match (Itself (String a e))
+leanString s a e r (String b f) = pick (same (part s a e) (part r b f)) Match (Itself (String a e))
 leanString s a e r (Char b) = Itself (String a e)
 leanString s a e r (Digits n) = Itself (String a e)
 leanString s a e r (Digits0 x) = Itself (String a e)
@@ -112,7 +106,7 @@ anew n = eqb n 0
 
 -- name n after the name just before it. Name 0 is DIFF 0; a later name equal to the one before is DUP 1, otherwise DIFF 1
 unfoldable pub referenceOf : ℕ → List ℕ → List ℕ → Reference
-referenceOf n before s = pick (anew n) (Diff (record { 0 = 0 })) (pick (equal before s) (Dup (record { 0 = 1 })) (Diff (record { 0 = 1 })))
+referenceOf n before s = pick (anew n) (Diff (record { 0 = 0 })) (pick (same before s) (Dup (record { 0 = 1 })) (Diff (record { 0 = 1 })))
 
 -- the name whose rows name n leans on: the one just before, or none
 unfoldable pub leansOn : ℕ → List ℕ → List ℕ

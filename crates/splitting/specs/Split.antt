@@ -6,6 +6,7 @@ use lib.ListN.{length, getD}
 use Rattle.base.specs.Choice.{pick}
 use Rattle.base.specs.Memory.{part}
 use Rattle.digits.specs.Digits.{isDigit, valueOf}
+use Rattle.splitting.specs.declared.Cut.{Cut}
 use Rattle.splitting.specs.declared.Piece.{Piece}
 use Rattle.splitting.specs.declared.Piece.the-variants.{String, Char, Digits, Digits0}
 
@@ -29,6 +30,18 @@ runAt s at = runEnd s (runClass (getD s at 0)) at (runLimit s at - at)
 -- where the token ends. If bytes remain at position 127, all of them are one token; past the end there is none
 unfoldable pub cutAt : List ℕ → ℕ → ℕ → ℕ
 cutAt s p at = pick (ltb at (length s)) (pick (eqb p 127) (length s) (runAt s at)) at
+
+-- a run of digits from a place on, n bytes at most: where it ends, and the number that it says
+unfoldable pub numberRun : List ℕ → ℕ → ℕ → Cut
+numberRun s at n = record { end = runEnd s 1 at n; number = valueOf (part s at (runEnd s 1 at n)) }
+
+-- where the token ends, and the number that it says if it is one
+unfoldable pub cutOf : List ℕ → ℕ → ℕ → Cut
+cutOf s p at =
+    pick (ltb at (length s))
+    (pick (eqb p 127) (record { end = length s; number = 0 })
+    (pick (eqb (runClass (getD s at 0)) 1) (numberRun s at (runLimit s at - at)) (record { end = runAt s at; number = 0 })))
+    (record { end = at; number = 0 })
 
 -- CHAR if it is one byte, else STRING
 unfoldable pub textPiece : List ℕ → ℕ → ℕ → Piece

@@ -1,14 +1,13 @@
 // A name into tokens, and the writer's choice for each: the token itself, a delta, MATCH or END.
 // Places count bytes of the name, from its start.
 ghost use mathlib.Core.Path.{_≡_};
-ghost use mathlib.Core.Bool.{true};
-ghost use Prim.Native.Nat.{_≤_, _<_, _+_, _-_, _^_};
+ghost use Prim.Native.Nat.{_≤_, _<_, _-_};
 ghost use lib.ListN.{length, getD};
 ghost use Rattle.base.specs.Memory.{part};
-ghost use Rattle.digits.specs.Digits.{allDigits};
+ghost use Rattle.digits.specs.Digits.{valueOf};
 ghost use Rattle.classes.specs.Classes.{classTable};
-ghost use Rattle.splitting.specs.Split.{runClass, runEnd, runLimit, runAt, cutAt, textPiece, numberPiece, pieceAt};
-ghost use Rattle.splitting.specs.Choices.{Within, equal, riseOf, leanString, leanChar, byRise, leanDigits, byRise0, leanDigits0, lean, choiceAt, anew, referenceOf, leansOn};
+ghost use Rattle.splitting.specs.Split.{runClass, runEnd, numberRun, runLimit, cutOf, textPiece, numberPiece, pieceAt};
+ghost use Rattle.splitting.specs.Choices.{Within, riseOf, leanString, leanChar, byRise, leanDigits, byRise0, leanDigits0, lean, choiceAt, anew, referenceOf, leansOn};
 use block::Block;
 use spans::Distance;
 use tokens::Padded;
@@ -22,6 +21,12 @@ pub enum Piece {
     Char(u8),
     Digits(u32),
     Digits0(Padded),
+}
+
+// Where a token ends, and the number that it says if it is one.
+pub struct Cut {
+    pub end: usize,
+    pub number: u32,
 }
 
 // How far a number is above the earlier row's.
@@ -58,14 +63,15 @@ fn run_class(table: &[u8; 256], b: u8) -> u8
     }
 }
 
-fn run_end(table: &[u8; 256], name: &[u8], class: u8, at: usize, to: usize) -> usize
+// Where a run of bytes that are no digits ends.
+fn run_end(table: &[u8; 256], name: &[u8], at: usize) -> usize
     requires { ⌜ now table ≡ classTable ⌝ }
-    requires { ⌜ (at ≤ to) × (to ≤ length (now name)) ⌝ }
-    ensures { λ r. ⌜ r ≡ runEnd (now (name .entry)) class at (to - at) ⌝ }
+    requires { ⌜ at ≤ length (now name) ⌝ }
+    ensures { λ r. ⌜ r ≡ runEnd (now (name .entry)) 0 at (length (now (name .entry)) - at) ⌝ }
 {
     let mut i = at;
-    while i < to {
-        if run_class(table, name[i]) != class {
+    while i < name.len() {
+        if run_class(table, name[i]) != 0 {
             return i;
         }
         i += 1;
@@ -73,42 +79,56 @@ fn run_end(table: &[u8; 256], name: &[u8], class: u8, at: usize, to: usize) -> u
     i
 }
 
+// A run of digits, read while its end is looked for.
+fn number_run(table: &[u8; 256], name: &[u8], at: usize, to: usize) -> Cut
+    requires { ⌜ now table ≡ classTable ⌝ }
+    requires { ⌜ (at ≤ to) × ((to ≤ length (now name)) × (to - at ≤ 9)) ⌝ }
+    ensures { λ r. ⌜ r ≡ numberRun (now (name .entry)) at (to - at) ⌝ }
+{
+    let mut n: u32 = 0;
+    let mut i = at;
+    while i < to {
+        let b = name[i];
+        if run_class(table, b) != 1 {
+            return Cut { end: i, number: n };
+        }
+        n = 10 * n + (b as u32 - 48);
+        i += 1;
+    }
+    Cut { end: i, number: n }
+}
+
 // A run of digits is cut after 9.
-fn run_limit(name: &[u8], class: u8, at: usize) -> usize
-    requires { ⌜ (at < length (now name)) × (class ≡ runClass (getD (now name) at 0)) ⌝ }
+fn digits_limit(name: &[u8], at: usize) -> usize
+    requires { ⌜ (at < length (now name)) × (runClass (getD (now name) at 0) ≡ 1) ⌝ }
     ensures { λ r. ⌜ r ≡ runLimit (now (name .entry)) at ⌝ }
 {
     let digits = Block::DIGITS as usize;
-    if class == 1 {
-        if digits < name.len() - at {
-            return at + digits;
-        }
+    if digits < name.len() - at {
+        return at + digits;
     }
     name.len()
 }
 
-fn run_at(table: &[u8; 256], name: &[u8], at: usize) -> usize
-    requires { ⌜ now table ≡ classTable ⌝ }
-    requires { ⌜ at < length (now name) ⌝ }
-    ensures { λ r. ⌜ r ≡ runAt (now (name .entry)) at ⌝ }
-{
-    let class = run_class(table, name[at]);
-    let to = run_limit(name, class, at);
-    run_end(table, name, class, at, to)
-}
-
 // Where the token that begins at a place ends.
-pub fn cut(table: &[u8; 256], name: &[u8], p: u32, at: usize) -> usize
+pub fn cut_at(table: &[u8; 256], name: &[u8], p: u32, at: usize) -> Cut
     requires { ⌜ now table ≡ classTable ⌝ }
-    ensures { λ r. ⌜ r ≡ cutAt (now (name .entry)) p at ⌝ }
+    ensures { λ r. ⌜ r ≡ cutOf (now (name .entry)) p at ⌝ }
 {
     if name.len() <= at {
-        return at;
+        return Cut { end: at, number: 0 };
     }
     if p == LAST {
-        return name.len();
+        return Cut {
+            end: name.len(),
+            number: 0,
+        };
     }
-    run_at(table, name, at)
+    if run_class(table, name[at]) == 1 {
+        return number_run(table, name, at, digits_limit(name, at));
+    }
+    let end = run_end(table, name, at + 1);
+    Cut { end, number: 0 }
 }
 
 fn text_piece(name: &[u8], at: usize, end: usize) -> Piece
@@ -121,11 +141,10 @@ fn text_piece(name: &[u8], at: usize, end: usize) -> Piece
     Piece::String { start: at, end }
 }
 
-fn number_piece(name: &[u8], at: usize, end: usize) -> Piece
-    requires { ⌜ (at < end) × ((end ≤ length (now name)) × ((end - at ≤ 9) × (allDigits (part (now name) at end) ≡ true))) ⌝ }
+fn number_piece(name: &[u8], at: usize, end: usize, number: u32) -> Piece
+    requires { ⌜ (at < end) × ((end ≤ length (now name)) × ((end - at ≤ 9) × (number ≡ valueOf (part (now name) at end)))) ⌝ }
     ensures { λ r. ⌜ r ≡ numberPiece (now (name .entry)) at end ⌝ }
 {
-    let number = digits::value(name, at, end);
     if name[at] == 48 {
         let width = (end - at) as u32;
         return Piece::Digits0(Padded { number, width });
@@ -133,37 +152,19 @@ fn number_piece(name: &[u8], at: usize, end: usize) -> Piece
     Piece::Digits(number)
 }
 
-// The token that begins at a place.
-pub fn piece_at(table: &[u8; 256], name: &[u8], p: u32, at: usize) -> Piece
+// The token that begins at a place, cut.
+fn piece_at(table: &[u8; 256], name: &[u8], p: u32, at: usize, cut: Cut) -> Piece
     requires { ⌜ now table ≡ classTable ⌝ }
-    requires { ⌜ at < length (now name) ⌝ }
+    requires { ⌜ (at < length (now name)) × (cut ≡ cutOf (now name) p at) ⌝ }
     ensures { λ r. ⌜ r ≡ pieceAt (now (name .entry)) p at ⌝ }
 {
     if p == LAST {
-        return text_piece(name, at, name.len());
+        return text_piece(name, at, cut.end);
     }
-    let end = run_at(table, name, at);
     if run_class(table, name[at]) == 1 {
-        return number_piece(name, at, end);
+        return number_piece(name, at, cut.end, cut.number);
     }
-    text_piece(name, at, end)
-}
-
-// All of the bytes and nothing else.
-pub fn same(a: &[u8], b: &[u8]) -> bool
-    ensures { λ r. ⌜ r ≡ equal (now (a .entry)) (now (b .entry)) ⌝ }
-{
-    if a.len() != b.len() {
-        return false;
-    }
-    let mut i: usize = 0;
-    while i < a.len() {
-        if a[i] != b[i] {
-            return false;
-        }
-        i += 1;
-    }
-    true
+    text_piece(name, at, cut.end)
 }
 
 fn rise_of(old: u32, new: u32) -> Rise
@@ -189,7 +190,7 @@ fn lean_string(name: &[u8], a: usize, e: usize, before: &[u8], u: Piece) -> Choi
 {
     match u {
         Piece::String { start, end } => {
-            if same(&name[a..e], &before[start..end]) {
+            if base::same(&name[a..e], &before[start..end]) {
                 return Choice::Match;
             }
             Choice::Itself(Piece::String { start: a, end: e })
@@ -277,24 +278,27 @@ fn lean(name: &[u8], t: Piece, before: &[u8], u: Piece) -> Choice
     }
 }
 
-// What is written for the token that begins at a, the earlier name's row at this position beginning at b.
+// What is written for the token from a on, cut at e, the earlier name's row at this position being from b on, cut at f.
+// The cuts come from whoever walks the names, who wants them too.
 pub fn choice_at(
     table: &[u8; 256],
     before: &[u8],
     name: &[u8],
     p: u32,
     a: usize,
+    e: Cut,
     b: usize,
+    f: Cut,
 ) -> Choice
     requires { ⌜ now table ≡ classTable ⌝ }
-    requires { ⌜ a < length (now name) ⌝ }
+    requires { ⌜ (a < length (now name)) × ((e ≡ cutOf (now name) p a) × (f ≡ cutOf (now before) p b)) ⌝ }
     ensures { λ r. ⌜ r ≡ choiceAt (now (before .entry)) (now (name .entry)) p a b ⌝ }
 {
-    let t = piece_at(table, name, p, a);
+    let t = piece_at(table, name, p, a, e);
     if before.len() <= b {
         return Choice::Itself(t);
     }
-    let u = piece_at(table, before, p, b);
+    let u = piece_at(table, before, p, b, f);
     lean(name, t, before, u)
 }
 
@@ -312,7 +316,7 @@ pub fn reference_of(n: u32, before: &[u8], name: &[u8]) -> Reference
     if is_anew(n) {
         return Reference::Diff(Distance(0));
     }
-    if same(before, name) {
+    if base::same(before, name) {
         return Reference::Dup(Distance(1));
     }
     Reference::Diff(Distance(1))

@@ -8,7 +8,7 @@ use borrow.Author.Tests.{leb-true, eqb-true}
 use lib.Dec.{leb, eqb}
 use lib.ListN.{length, take}
 use Rattle.base.specs.Choice.{pick, both}
-use Rattle.base.proofs.Choice.{both-true}
+use Rattle.base.proofs.Choice.{both-true, pick-same}
 use Rattle.spans.specs.declared.Cursor.{Cursor}
 use Rattle.spans.specs.declared.NextByte.{NextByte}
 use Rattle.spans.specs.declared.NextByte.the-variants as byte
@@ -18,7 +18,7 @@ use Rattle.tokens.specs.declared.TokenType.the-variants as type
 use Rattle.tokens.specs.declared.Token.{Token}
 use Rattle.tokens.specs.declared.Token.the-variants.{String, Char, Digits, Digits0}
 use Rattle.tokens.specs.Types.{typeOf}
-use Rattle.tokens.proofs.Texts.{same-at}
+use Rattle.base.proofs.Below.{same-at}
 use Rattle.kept.specs.declared.Row.{Row}
 use Rattle.kept.specs.Tables.{rowAt}
 use Rattle.kept.specs.Inside.{RowInside}
@@ -27,7 +27,6 @@ use Rattle.steps.specs.declared.Step.the-variants.{Got, End, Refused}
 use Rattle.steps.specs.Source.{Source, source, Earlier, earlier, byteIn, fourIn, textIn}
 use Rattle.steps.specs.Steps.{stringStep, charStep, digitsStep, tokenOf, hasRow, rowHere, hasKind, deltaAt, delta0At, matchAt, valueStep, barred, typedStep, stepAt}
 use Rattle.steps.specs.Sound.{Rows}
-use Rattle.steps.proofs.Picks.{pick-same}
 
 -- The cursors
 

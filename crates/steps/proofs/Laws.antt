@@ -6,10 +6,10 @@ use mathlib.Core.List.{List}
 use mathlib.Core.Logic.{⊎-elim}
 use native.Mathlib.Omega.{arith}
 use borrow.Author.Tests.{leb-true, ltb-true, eqb-true, eq-eqb}
-use lib.Dec.{leb, ltb, eqb}
+use lib.Dec.{ltb, eqb}
 use lib.ListN.{length, getD}
 use Rattle.base.specs.Choice.{pick}
-use Rattle.base.proofs.Choice.{pick-true, pick-false, both-true, both-of, by-test, never}
+use Rattle.base.proofs.Choice.{pick-true, pick-false, both-true, both-of, by-test, never, pick-holds}
 use Rattle.base.proofs.Numbers.{lt-or-ge}
 use Rattle.digits.specs.Digits.{fitsWidth}
 use Rattle.spans.specs.declared.Cursor.{Cursor}
@@ -17,8 +17,8 @@ use Rattle.spans.specs.declared.NextByte.{NextByte}
 use Rattle.spans.specs.declared.NextByte.the-variants as byte
 use Rattle.spans.specs.declared.NextFour.{NextFour}
 use Rattle.spans.specs.declared.NextText.{NextText}
-use Rattle.spans.specs.Spans.{byteAt, four, fourAt, textEnd, textAt}
-use Rattle.spans.proofs.Laws.{end-found, byte-found}
+use Rattle.spans.specs.Spans.{cursor, four}
+use Rattle.spans.proofs.Laws.{byte-found, four-below}
 use Rattle.block.specs.Block.{spanOf, endOf, cursorOf}
 use Rattle.block.specs.declared.State.{State}
 use Rattle.block.specs.Open.{Open}
@@ -33,12 +33,13 @@ use Rattle.kept.specs.declared.Row.{Row}
 use Rattle.kept.specs.declared.Entry.{Entry}
 use Rattle.kept.specs.Tables.{rowAt}
 use Rattle.kept.specs.Inside.{RowInside, EntryInside}
+use Rattle.kept.proofs.Laws.{row-more}
 use Rattle.steps.specs.declared.Step.{Step}
 use Rattle.steps.specs.declared.Step.the-variants.{Got, End, Refused}
 use Rattle.steps.specs.Source.{Source, Earlier, earlier, byteIn, fourIn, textIn}
 use Rattle.steps.specs.Steps.{stringStep, charStep, digitsStep, paddedStep, widthStep, digits0Step, deltaStep, delta0Step, tokenOf, hasRow, rowHere, hasKind, deltaAt, delta0At, matchAt, valueStep, carries, barred, typedStep, stepAt}
 use Rattle.steps.specs.Sound.{Rows, reach, Below}
-use Rattle.steps.proofs.Picks.{pick-holds}
+use Rattle.steps.proofs.Moves.{at, stop, byte-cases, four-cases, text-cases, Moved, value-moved}
 
 -- what is known where a step is taken
 pub record Known (s : Source) (e : Earlier) (used p : ℕ) : Type 0 where
@@ -50,27 +51,11 @@ pub record Known (s : Source) (e : Earlier) (used p : ℕ) : Type 0 where
   pub texts : Below 256 (e .text)
   pub numbers : Below (2 ^ 32) (e .rows)
 
--- a cursor between where a span's stood and the span's end
-abbrev pub Between : Source → ℕ → ℕ → Type 0
-Between s i c = (cursorOf (s .cur) i ≤ c) × (c ≤ endOf (s .dir) i)
-
--- the cursor past a value, in the span of its type; a DZLEN has its byte
-abbrev pub Moved : Source → ℕ → ℕ → TokenType → Type 0
-Moved s p c type.String = Between s (spanOf p 1) c
-Moved s p c type.Char = Between s (spanOf p 2) c
-Moved s p c type.Digits = Between s (spanOf p 7) c
-Moved s p c type.Digits0 = Between s (spanOf p 3) c × (cursorOf (s .cur) (spanOf p 4) + 1 ≤ endOf (s .dir) (spanOf p 4))
-Moved s p c type.Delta = Between s (spanOf p 8) c
-Moved s p c type.Delta0 = Between s (spanOf p 9) c
-Moved s p c type.Match = Unit
-Moved s p c type.End = Unit
-Moved s p c type.Other = Unit
-
 -- what is to be shown of a step at a type
-abbrev Fine : Source → Earlier → ℕ → ℕ → TokenType → Step → Type 0
-Fine s e used p ty (Got t c) = Inside (s .bytes) (e .text) t × (KeptBelow used t × Moved s p (c .0) ty)
-Fine s e used p ty End = ty ≡ type.End
-Fine s e used p ty (Refused n) = Unit
+abbrev Fine : Source → Earlier → ℕ → TokenType → Step → Type 0
+Fine s e used ty (Got t c) = Inside (s .bytes) (e .text) t × KeptBelow used t
+Fine s e used ty End = ty ≡ type.End
+Fine s e used ty (Refused n) = Unit
 
 fresh-inside : (bytes text : List ℕ) (a z : ℕ) → a ≤ z → z ≤ length bytes → Inside bytes text (String (record { kept = false; start = a; end = z }))
 unfolding pick
@@ -80,64 +65,38 @@ kept-inside : (bytes text : List ℕ) (a z : ℕ) → a ≤ z → z ≤ length t
 unfolding pick
 kept-inside bytes text a z h l = (h, l)
 
-four-below : (bytes : List ℕ) (i : ℕ) → Below 256 bytes → four bytes i < 2 ^ 32
-unfolding four
-four-below bytes i h = omega (arith, h i, h (i + 1), h (i + 2), h (i + 3))
-
 module _ (s : Source) (e : Earlier) (used p : ℕ) (k : Known s e used p) where
-  ends : (i : ℕ) → i ≤ 9 → endOf (s .dir) (spanOf p i) ≤ length (s .bytes)
+  ends : (i : ℕ) → i ≤ 9 → stop s p i ≤ length (s .bytes)
   ends i h = k .opened .within (spanOf p i) (span-below p i (k .last) h)
 
-  string-fine : Fine s e used p type.String (stringStep (textIn s p 1))
-  unfolding stringStep textIn textAt
+  string-fine : Fine s e used type.String (stringStep (textIn s p 1))
+  unfolding stringStep
   string-fine =
-      let at = cursorOf (s .cur) (spanOf p 1) in
-      let end = endOf (s .dir) (spanOf p 1) in
-      let z = textEnd (s .bytes) at end in
-      pick-holds (λ (x : NextText). Fine s e used p type.String (stringStep x)) (ltb z end) _ _
-      (λ h.
-      let l : z < end = ltb-true _ _ h in
-      let f = end-found (s .bytes) at end refl l in
-      let m : at ≤ z = f .low in
-      (fresh-inside (s .bytes) (e .text) at z m (omega (arith, ends 1 (omega arith))), ((λ q. absurd (never q)), (omega arith, omega arith))))
-      (λ h. tt)
+      text-cases s p 1 (λ (x : NextText). Fine s e used type.String (stringStep x))
+      (λ z l h. (fresh-inside (s .bytes) (e .text) (at s p 1) z l (omega (arith, ends 1 (omega arith))), λ q. absurd (never q)))
+      tt
 
-  char-fine : Fine s e used p type.Char (charStep (byteIn s p 2))
-  unfolding charStep byteIn byteAt
-  char-fine =
-      let at = cursorOf (s .cur) (spanOf p 2) in
-      let end = endOf (s .dir) (spanOf p 2) in
-      pick-holds (λ (x : NextByte). Fine s e used p type.Char (charStep x)) (leb (at + 1) end) _ _
-      (λ h. let l : at + 1 ≤ end = leb-true _ _ h in (k .bytes at, (tt, (omega arith, l))))
-      (λ h. tt)
+  char-fine : Fine s e used type.Char (charStep (byteIn s p 2))
+  unfolding charStep
+  char-fine = byte-cases s p 2 (λ (x : NextByte). Fine s e used type.Char (charStep x)) (λ l. (k .bytes (at s p 2), tt)) tt
 
-  digits-fine : Fine s e used p type.Digits (digitsStep (fourIn s p 7))
-  unfolding digitsStep fourIn fourAt
-  digits-fine =
-      let at = cursorOf (s .cur) (spanOf p 7) in
-      let end = endOf (s .dir) (spanOf p 7) in
-      pick-holds (λ (x : NextFour). Fine s e used p type.Digits (digitsStep x)) (leb (at + 4) end) _ _
-      (λ h. let l : at + 4 ≤ end = leb-true _ _ h in (four-below (s .bytes) at (k .bytes), (tt, (omega arith, l))))
-      (λ h. tt)
+  digits-fine : Fine s e used type.Digits (digitsStep (fourIn s p 7))
+  unfolding digitsStep
+  digits-fine = four-cases s p 7 (λ (x : NextFour). Fine s e used type.Digits (digitsStep x)) (λ l. (four-below (s .bytes) (at s p 7) (k .bytes), tt)) tt
 
-  padded-fine : (ty : TokenType) (n w : ℕ) (c : Cursor) → n < 2 ^ 32 → w ≤ 255 → Moved s p (c .0) ty → Fine s e used p ty (paddedStep n w c)
+  padded-fine : (ty : TokenType) (n w : ℕ) (c : Cursor) → n < 2 ^ 32 → w ≤ 255 → Fine s e used ty (paddedStep n w c)
   unfolding paddedStep
-  padded-fine ty n w c h l m = pick-holds (λ (x : Step). Fine s e used p ty x) (fitsWidth n w) _ _ (λ f. ((h, (f, l)), (tt, m))) (λ f. tt)
+  padded-fine ty n w c h l = pick-holds (λ (x : Step). Fine s e used ty x) (fitsWidth n w) _ _ (λ f. ((h, (f, l)), tt)) (λ f. tt)
 
-  digits0-fine : Fine s e used p type.Digits0 (digits0Step (fourIn s p 3) (byteIn s p 4))
-  unfolding digits0Step widthStep fourIn fourAt byteIn byteAt
+  digits0-fine : Fine s e used type.Digits0 (digits0Step (fourIn s p 3) (byteIn s p 4))
+  unfolding digits0Step widthStep
   digits0-fine =
-      let at = cursorOf (s .cur) (spanOf p 3) in
-      let end = endOf (s .dir) (spanOf p 3) in
-      let w = cursorOf (s .cur) (spanOf p 4) in
-      let stop = endOf (s .dir) (spanOf p 4) in
-      pick-holds (λ (x : NextFour). Fine s e used p type.Digits0 (digits0Step x (byteIn s p 4))) (leb (at + 4) end) _ _
-      (λ h.
-      let l : at + 4 ≤ end = leb-true _ _ h in
-      pick-holds (λ (x : NextByte). Fine s e used p type.Digits0 (widthStep (four (s .bytes) at) (record { 0 = at + 4 }) x)) (leb (w + 1) stop) _ _
-      (λ g. padded-fine type.Digits0 _ _ _ (four-below (s .bytes) at (k .bytes)) (omega (arith, k .bytes w)) ((omega arith, l), leb-true _ _ g))
-      (λ g. tt))
-      (λ h. tt)
+      four-cases s p 3 (λ (x : NextFour). Fine s e used type.Digits0 (digits0Step x (byteIn s p 4)))
+      (λ l.
+      byte-cases s p 4 (λ (x : NextByte). Fine s e used type.Digits0 (widthStep (four (s .bytes) (at s p 3)) (cursor (at s p 3 + 4)) x))
+      (λ m. padded-fine type.Digits0 _ _ _ (four-below (s .bytes) (at s p 3) (k .bytes)) (omega (arith, k .bytes (at s p 4))))
+      tt)
+      tt
 
   row-inside : hasRow e p ≡ true → RowInside used (rowHere e p)
   unfolding hasRow rowHere
@@ -150,43 +109,29 @@ module _ (s : Source) (e : Earlier) (used p : ℕ) (k : Known s e used p) where
   unfolding rowHere rowAt
   number-below = k .numbers _
 
-  delta-fine : Fine s e used p type.Delta (deltaAt s e p)
-  unfolding deltaAt deltaStep byteIn byteAt
+  delta-fine : Fine s e used type.Delta (deltaAt s e p)
+  unfolding deltaAt deltaStep
   delta-fine =
-      let at = cursorOf (s .cur) (spanOf p 8) in
-      let end = endOf (s .dir) (spanOf p 8) in
       let n = rowHere e p .number in
-      let d = getD (s .bytes) at 0 in
-      pick-holds (λ (x : Step). Fine s e used p type.Delta x) (hasKind e p 7) _ _
+      pick-holds (λ (x : Step). Fine s e used type.Delta x) (hasKind e p 7) _ _
       (λ r.
-      pick-holds (λ (x : NextByte). Fine s e used p type.Delta (deltaStep n x)) (leb (at + 1) end) _ _
-      (λ h.
-      let l : at + 1 ≤ end = leb-true _ _ h in
-      pick-holds (λ (x : Step). Fine s e used p type.Delta x) (ltb (n + d) (2 ^ 32)) _ _
-      (λ g. (ltb-true _ _ g, (tt, (omega arith, l))))
-      (λ g. tt))
-      (λ h. tt))
+      byte-cases s p 8 (λ (x : NextByte). Fine s e used type.Delta (deltaStep n x))
+      (λ l. pick-holds (λ (x : Step). Fine s e used type.Delta x) (ltb (n + getD (s .bytes) (at s p 8) 0) (2 ^ 32)) _ _ (λ g. (ltb-true _ _ g, tt)) (λ g. tt))
+      tt)
       (λ r. tt)
 
-  delta0-fine : Fine s e used p type.Delta0 (delta0At s e p)
-  unfolding delta0At delta0Step hasKind byteIn byteAt
+  delta0-fine : Fine s e used type.Delta0 (delta0At s e p)
+  unfolding delta0At delta0Step hasKind
   delta0-fine =
-      let at = cursorOf (s .cur) (spanOf p 9) in
-      let end = endOf (s .dir) (spanOf p 9) in
       let n = rowHere e p .number in
       let w = rowHere e p .width in
-      let d = getD (s .bytes) at 0 in
-      pick-holds (λ (x : Step). Fine s e used p type.Delta0 x) (hasKind e p 4) _ _
+      pick-holds (λ (x : Step). Fine s e used type.Delta0 x) (hasKind e p 4) _ _
       (λ r.
       let b = both-true (hasRow e p) (eqb (rowHere e p .kind) 4) r in
       let v : w ≤ 254 = row-inside (b .0) .kind .width (eqb-true _ _ (b .1)) in
-      pick-holds (λ (x : NextByte). Fine s e used p type.Delta0 (delta0Step n w x)) (leb (at + 1) end) _ _
-      (λ h.
-      let l : at + 1 ≤ end = leb-true _ _ h in
-      pick-holds (λ (x : Step). Fine s e used p type.Delta0 x) (ltb (n + d) (2 ^ 32)) _ _
-      (λ g. padded-fine type.Delta0 (n + d) w _ (ltb-true _ _ g) (omega arith) (omega arith, l))
-      (λ g. tt))
-      (λ h. tt))
+      byte-cases s p 9 (λ (x : NextByte). Fine s e used type.Delta0 (delta0Step n w x))
+      (λ l. pick-holds (λ (x : Step). Fine s e used type.Delta0 x) (ltb (n + getD (s .bytes) (at s p 9) 0) (2 ^ 32)) _ _ (λ g. padded-fine type.Delta0 _ w _ (ltb-true _ _ g) (omega arith)) (λ g. tt))
+      tt)
       (λ r. tt)
 
   -- what a row repeats
@@ -208,14 +153,14 @@ module _ (s : Source) (e : Earlier) (used p : ℕ) (k : Known s e used p) where
       ((n, (i .kind .number (eqb-true _ _ f), omega arith)), tt))
       (λ f. (n, tt))))
 
-  match-fine : (c : Cursor) → Fine s e used p type.Match (matchAt e p c)
+  match-fine : (c : Cursor) → Fine s e used type.Match (matchAt e p c)
   unfolding matchAt
   match-fine c =
-      pick-holds (λ (x : Step). Fine s e used p type.Match x) (hasRow e p) _ _
-      (λ h. let f = token-fine (rowHere e p) (row-inside h) number-below in (f .0, (f .1, tt)))
+      pick-holds (λ (x : Step). Fine s e used type.Match x) (hasRow e p) _ _
+      (λ h. token-fine (rowHere e p) (row-inside h) number-below)
       (λ h. tt)
 
-  value-fine : (c : Cursor) (ty : TokenType) → Fine s e used p ty (valueStep s e p c ty)
+  value-fine : (c : Cursor) (ty : TokenType) → Fine s e used ty (valueStep s e p c ty)
   unfolding valueStep
   value-fine c type.String = string-fine
   value-fine c type.Char = char-fine
@@ -288,7 +233,7 @@ typed-given s e used p t c k (byte.Value b n) q r =
     (λ h. absurd (not-got (sym (pick-true _ _ h) ∙ r)))
     (λ h.
     let v : valueStep s e p n (typeOf b) ≡ Got t c = sym (pick-false _ _ h) ∙ r in
-    let f : Fine s e used p (typeOf b) (Got t c) = subst (λ (x : Step). Fine s e used p (typeOf b) x) v (value-fine s e used p k n (typeOf b)) in
+    let f : Fine s e used (typeOf b) (Got t c) = subst (λ (x : Step). Fine s e used (typeOf b) x) v (value-fine s e used p k n (typeOf b)) in
     record {
       code = b;
       next = n;
@@ -296,8 +241,8 @@ typed-given s e used p t c k (byte.Value b n) q r =
       there = byte-there s e p q;
       before = unbarred s e p (typeOf b) (k .last) h (got-carries s e p n (typeOf b) v);
       inside = f .0;
-      below = f .1 .0;
-      moved = f .1 .1;
+      below = f .1;
+      moved = value-moved s e p n (typeOf b) v;
     })
 typed-given s e used p t c k byte.Short q r = absurd (not-got r)
 
@@ -317,7 +262,7 @@ typed-ended s e used p k (byte.Value b n) q r =
       next = n;
       typed = q;
       there = byte-there s e p q;
-      ends = subst (λ (x : Step). Fine s e used p (typeOf b) x) v (value-fine s e used p k n (typeOf b));
+      ends = subst (λ (x : Step). Fine s e used (typeOf b) x) v (value-fine s e used p k n (typeOf b));
     })
 typed-ended s e used p k byte.Short q r = absurd (refused-end r)
 
@@ -328,11 +273,8 @@ ended s e used p k r = typed-ended s e used p k (byteIn s p 0) refl r
 -- The earlier name's rows
 
 module _ (used : ℕ) (e : Earlier) (r : Rows used e) where
-  row-more : (most : ℕ) → used ≤ most → (x : Row) → RowInside used x → RowInside most x
-  row-more most h x i = record { ends = let l : x .start + x .length ≤ used = i .ends in omega arith; kind = i .kind }
-
   pub rows-more : (most : ℕ) → used ≤ most → most ≤ length (e .text) → Rows most e
-  rows-more most h l = record { table = r .table; most = r .most; room = l; each = λ j a b. row-more most h _ (r .each j a b) }
+  rows-more most h l = record { table = r .table; most = r .most; room = l; each = λ j a b. row-more used most h _ (r .each j a b) }
 
   -- what the functions require
   pub rows-reach : used < 2 ^ 32 → Rows (reach (e .text)) e

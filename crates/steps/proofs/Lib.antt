@@ -1,4 +1,4 @@
-pub mod Picks
+pub mod Moves
 pub mod Ways
 pub mod Laws
 pub mod Frame

@@ -68,8 +68,8 @@ module _ (n d : ℕ) (c : Cursor) where
   sum-long h = left _ _ (le-ltb _ _ h) refl
 
   pub sum0-fits : (w : ℕ) {x : Step} → n + d < 2 ^ 32 → x ≡ paddedStep (n + d) w c → x ≡ delta0Step n w (byte.Value d c)
-  unfolding delta0Step
-  sum0-fits w h x = took _ _ (lt-ltb _ _ h) x
+  unfolding delta0Step pick
+  sum0-fits w h x = rw (lt-ltb _ _ h, x)
 
   pub sum0-long : (w : ℕ) → 2 ^ 32 ≤ n + d → Refused 6 ≡ delta0Step n w (byte.Value d c)
   unfolding delta0Step

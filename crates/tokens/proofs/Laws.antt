@@ -16,7 +16,7 @@ use Rattle.tokens.specs.declared.TokenType.the-variants as type
 use Rattle.tokens.specs.Types.{typeOf}
 use Rattle.tokens.specs.Tokens.{bytesOf, kindOf, lengthOf, rowOf}
 use Rattle.tokens.specs.Inside.{Inside, KeptBelow}
-use Rattle.tokens.proofs.Texts.{same-part}
+use Rattle.base.proofs.Below.{same-part}
 
 -- the numbers of the table
 

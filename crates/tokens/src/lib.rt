@@ -7,7 +7,7 @@ ghost use mathlib.Core.List.{[], _∷_};
 ghost use lib.ListN.{length};
 ghost use Rattle.base.specs.Choice.{pick};
 ghost use Rattle.base.specs.Memory.{written, part};
-ghost use Rattle.classes.specs.Classes.{classTable, allAllowed};
+ghost use Rattle.classes.specs.Classes.{allAllowed};
 ghost use Rattle.tokens.specs.Types.{typeOf};
 ghost use Rattle.tokens.specs.Tokens.{bytesOf, kindOf, numberOf, widthOf, lengthOf, rowOf};
 ghost use Rattle.tokens.specs.Inside.{Inside, KeptBelow};
@@ -114,40 +114,27 @@ pub fn length(t: Token) -> u32
     }
 }
 
-fn text_allowed(t: Text, table: &[u8; 256], bytes: &[u8], text: &[u8]) -> bool
-    requires { ⌜ now table ≡ classTable ⌝ }
+fn text_allowed(t: Text, bytes: &[u8], text: &[u8]) -> bool
     requires { ⌜ (t .start ≤ t .end) × (t .end ≤ length (pick (t .kept) (now text) (now bytes))) ⌝ }
     ensures { λ r. ⌜ r ≡ allAllowed (part (pick (t .kept) (now (text .entry)) (now (bytes .entry))) (t .start) (t .end)) ⌝ }
 {
     let from = t.start as usize;
     let to = t.end as usize;
     if t.kept {
-        classes::allowed(table, text, from, to)
+        classes::all_allowed(text, from, to)
     } else {
-        classes::allowed(table, bytes, from, to)
-    }
-}
-
-fn byte_allowed(b: u8, table: &[u8; 256]) -> bool
-    requires { ⌜ now table ≡ classTable ⌝ }
-    ensures { λ r. ⌜ r ≡ allAllowed (b ∷ []) ⌝ }
-{
-    if classes::class_in(table, b) == 0 {
-        false
-    } else {
-        true
+        classes::all_allowed(bytes, from, to)
     }
 }
 
 // Every byte printed is one that SAM allows; a number has digits only.
-pub fn allowed(t: Token, table: &[u8; 256], bytes: &[u8], text: &[u8]) -> bool
-    requires { ⌜ now table ≡ classTable ⌝ }
+pub fn allowed(t: Token, bytes: &[u8], text: &[u8]) -> bool
     requires { ⌜ Inside (now bytes) (now text) t ⌝ }
     ensures { λ r. ⌜ r ≡ allAllowed (bytesOf (now (bytes .entry)) (now (text .entry)) t) ⌝ }
 {
     match t {
-        Token::String(s) => text_allowed(s, table, bytes, text),
-        Token::Char(b) => byte_allowed(b, table),
+        Token::String(s) => text_allowed(s, bytes, text),
+        Token::Char(b) => classes::is_allowed(b),
         Token::Digits(_) => true,
         Token::Digits0(_) => true,
     }
@@ -168,27 +155,36 @@ fn put_text(t: Text, bytes: &[u8], text: &mut [u8], at: usize)
     }
 }
 
-// A token's printed bytes at a place of the text; a number is printed anew.
-pub fn put(t: Token, bytes: &[u8], text: &mut [u8], at: usize)
+// A token's printed bytes at a place of the text, and how many they are; a number is printed anew.
+pub fn put(t: Token, bytes: &[u8], text: &mut [u8], at: usize) -> u32
     requires { ⌜ Inside (now bytes) (now text) t ⌝ }
     requires { ⌜ KeptBelow at t ⌝ }
     requires { ⌜ at + lengthOf t ≤ length (now text) ⌝ }
+    ensures { λ r. ⌜ r ≡ lengthOf t ⌝ }
     ensures { λ _. ⌜ now (text .exit) ≡ written (now (text .entry)) at (bytesOf (now (bytes .entry)) (now (text .entry)) t) ⌝ }
 {
     match t {
-        Token::String(s) => put_text(s, bytes, text, at),
-        Token::Char(b) => base::put_byte(text, at, b),
-        Token::Digits(n) => {
-            digits::print(n, text, at);
+        Token::String(s) => {
+            put_text(s, bytes, text, at);
+            text_length(s)
         }
-        Token::Digits0(p) => digits::print_padded(p.number, p.width, text, at),
+        Token::Char(b) => {
+            base::put_byte(text, at, b);
+            1
+        }
+        Token::Digits(n) => digits::print(n, text, at) as u32,
+        Token::Digits0(p) => {
+            digits::print_padded(p.number, p.width, text, at);
+            p.width
+        }
     }
 }
 
-// A token's row, its text starting at a place.
-pub fn put_row(t: Token, rows: &mut [u32], row: usize, at: u32)
+// A token's row, its text starting at a place. Who puts it has found the token's length before.
+pub fn put_row(t: Token, len: u32, rows: &mut [u32], row: usize, at: u32)
+    requires { ⌜ len ≡ lengthOf t ⌝ }
     requires { ⌜ 5 * row + 5 ≤ length (now rows) ⌝ }
     ensures { λ _. ⌜ now (rows .exit) ≡ written (now (rows .entry)) (5 * row) (rowOf t at) ⌝ }
 {
-    base::put_five(rows, 5 * row, kind(t), number(t), width(t), at, length(t));
+    base::put_five(rows, 5 * row, kind(t), number(t), width(t), at, len);
 }

@@ -1,10 +1,11 @@
 -- From the passes to the answer: what each call of writing leaves is what the definition says.
-use Prim.Native.Nat.{ℕ, _+_, _^_, _≤_, _<_}
+use Prim.Native.Nat.{ℕ, _+_, _*_, _^_, _≤_, _<_}
 use mathlib.Core.Path.{_≡_, refl, sym, ap, _∙_, subst}
-use mathlib.Core.Bool.{true, false}
+use mathlib.Core.Bool.{Bool, true, false}
 use mathlib.Core.List.{List, []}
 use native.Mathlib.Omega.{arith}
-use borrow.Author.Tests.{eq-eqb, ne-eqb, le-leb, lt-leb}
+use borrow.Author.Tests.{eq-eqb, ne-eqb, le-leb, lt-leb, leb-true}
+use lib.Dec.{leb}
 use lib.ListN.{length}
 use Rattle.base.proofs.Choice.{took, left, both-of, both-left, both-right}
 use Rattle.block.specs.declared.Refusal.the-variants.{Plain, At}
@@ -19,7 +20,7 @@ use Rattle.writing.specs.declared.WriteAnswer.the-variants.{Written, Ref
 use Rattle.writing.specs.Names.{namesOf, ended, judgedFrom}
 use Rattle.writing.specs.NamePuts.{putsOf}
 use Rattle.writing.specs.Writes.{Writing, writing, countable, Ready, laidOf, judgedOf, writeOf}
-use Rattle.writing.proofs.Totals.{puts-inside, total-below}
+use Rattle.writing.proofs.Totals.{puts-inside, total-below, total-most}
 
 -- all that the names of an input put
 abbrev pub putsIn : List ℕ → List Put
@@ -44,6 +45,9 @@ module _ (input dir bytes : List ℕ) (k : Ready input dir) where
   pub total-room : Roomy Total (putsIn input) (world 0 dir bytes)
   total-room = total-roomy (putsIn input) 0 dir bytes (inside input) (k .table) (omega (arith, size-below))
 
+  pub ample : 6 * length input ≤ length bytes → true ≡ leb (totalOf (putsIn input)) (length bytes)
+  ample h = let l : totalOf (putsIn input) ≤ length bytes = omega (arith, total-most input) in sym (le-leb _ _ l)
+
   module _ {t : ℕ} {d y : List ℕ} (e : world t d y ≡ runOf Total (putsIn input) (world 0 dir bytes)) where
     all : world t d y ≡ world (0 + sizeOf (putsIn input)) dir bytes
     all = e ∙ total-run (putsIn input) 0 dir bytes
@@ -51,31 +55,26 @@ module _ (input dir bytes : List ℕ) (k : Ready input dir) where
     pub total-is : t ≡ totalOf (putsIn input)
     total-is = ap (λ (w : World). w .total) all ∙ omega (arith, total-size input)
 
-    pub same-dir : d ≡ dir
-    same-dir = ap (λ (w : World). w .dir) all
+    pub counted-out : {f : Bool} → f ≡ leb t (length y) → (f ≡ leb (totalOf (putsIn input)) (length bytes)) × ((d ≡ dir) × (y ≡ bytes))
+    counted-out q =
+        let b : y ≡ bytes = ap (λ (w : World). w .bytes) all in
+        (q ∙ ap (λ (n : ℕ). leb n (length y)) total-is ∙ ap (λ (x : List ℕ). leb (totalOf (putsIn input)) (length x)) b, (ap (λ (w : World). w .dir) all, b))
 
-    pub same-bytes : y ≡ bytes
-    same-bytes = ap (λ (w : World). w .bytes) all
-
-    pub no-room : length y < t → writing (Refused (Plain 9)) d y ≡ laidOf (namesOf input) dir bytes
+  module _ {f : Bool} {d y : List ℕ} (e : f ≡ leb (totalOf (putsIn input)) (length bytes)) (same-dir : d ≡ dir) (same-bytes : y ≡ bytes) where
+    pub no-room : f ≡ false → writing (Refused (Plain 9)) d y ≡ laidOf (namesOf input) dir bytes
     unfolding laidOf
-    no-room h =
-        let l : length bytes < totalOf (putsIn input) = omega (arith, total-is, ap length same-bytes) in
-        left _ _ (lt-leb _ _ l) (ap (λ (x : List ℕ). writing (Refused (Plain 9)) x y) same-dir ∙ ap (λ (x : List ℕ). writing (Refused (Plain 9)) dir x) same-bytes)
+    no-room h = left _ _ (sym e ∙ h) (rw (same-dir, same-bytes))
 
-    pub room : t ≤ length y → totalOf (putsIn input) ≤ length y
-    room h = omega (arith, total-is)
+    pub room : f ≡ true → totalOf (putsIn input) ≤ length y
+    room h = rw same-bytes (leb-true _ _ (sym e ∙ h))
 
     pub still-ready : Ready input d
     still-ready = subst (λ (x : List ℕ). Ready input x) (sym same-dir) k
 
-    pub done : {n : ℕ} {a b : List ℕ} → n ≡ length (namesOf input) → t ≤ length y → a ≡ directoryOf (putsIn input) → b ≡ bytesOf (putsIn input) y
+    pub done : {n t : ℕ} {a b : List ℕ} → n ≡ length (namesOf input) → f ≡ true → t ≡ totalOf (putsIn input) → a ≡ directoryOf (putsIn input) → b ≡ bytesOf (putsIn input) y
         → writing (Written n t) a b ≡ laidOf (namesOf input) dir bytes
     unfolding laidOf
-    done {n} {a} {b} p h q r =
-        let l : totalOf (putsIn input) ≤ length bytes = omega (arith, total-is, ap length same-bytes) in
-        let s : b ≡ bytesOf (putsIn input) bytes = r ∙ ap (bytesOf (putsIn input)) same-bytes in
-        took _ _ (le-leb _ _ l) (rw (p, total-is, q, s))
+    done p h u q r = took _ _ (sym e ∙ h) (rw (p, u, q, r, same-bytes))
 
   -- Sizes, places, bytes
 
@@ -102,10 +101,10 @@ module _ (input dir bytes : List ℕ) (k : Ready input dir) where
         pub last-room : Roomy Fill (putsIn input) (world 0 c y)
         last-room = subst (λ (w : World). Roomy Fill (putsIn input) w) (sym at) (fill-room (putsIn input) bytes (inside input) h below)
 
-        pub filled : {d z : List ℕ} {u : ℕ} → world u d z ≡ runOf Fill (putsIn input) (world 0 c y) → (d ≡ directoryOf (putsIn input)) × (z ≡ bytesOf (putsIn input) bytes)
+        pub filled : {d z : List ℕ} {u : ℕ} → world u d z ≡ runOf Fill (putsIn input) (world 0 c y) → (u ≡ totalOf (putsIn input)) × ((d ≡ directoryOf (putsIn input)) × (z ≡ bytesOf (putsIn input) bytes))
         filled i =
             let j = i ∙ ap (runOf Fill (putsIn input)) at ∙ fill-all (putsIn input) bytes (inside input) h in
-            (ap (λ (w : World). w .dir) j, ap (λ (w : World). w .bytes) j)
+            (ap (λ (w : World). w .total) j, (ap (λ (w : World). w .dir) j, ap (λ (w : World). w .bytes) j))
 
 -- The answer
 

@@ -8,26 +8,17 @@ use native.Mathlib.Omega.{arith}
 use native.Mathlib.Numerals.{add-one}
 use borrow.Author.Tests.{eq-eqb, ne-eqb, eqb-true, leb-true, le-leb, lt-leb}
 use lib.Dec.{eqb, leb}
-use lib.ListN.{length, getD, take, drop, length-drop}
-use lib.Seq.{drop-cons, drop-length, take-suc, getD-drop}
+use lib.ListN.{length, getD, drop}
+use lib.Seq.{drop-cons, drop-length}
 use Rattle.base.specs.Choice.{pick, both}
 use Rattle.base.specs.Memory.{part}
 use Rattle.base.proofs.Choice.{pick-true, pick-false, both-true, both-left, both-right, by-test, took, left}
 use Rattle.base.proofs.Numbers.{lt-or-ge}
+use Rattle.base.proofs.Lists.{part-last}
 use Rattle.base.proofs.Memory.{length-part}
 use Rattle.classes.specs.Classes.{allAllowed}
 use Rattle.writing.specs.declared.Judged.the-variants.{Fine, Bad}
 use Rattle.writing.specs.Names.{namesAfter, ended, goodName, judgedFrom}
-
--- a part with one byte more
-pub part-last : (s : List ℕ) (from i : ℕ) → from ≤ i → i < length s → part s from (i + 1) ≡ part s from i ++ getD s i 0 ∷ []
-unfolding part
-part-last s from i h k =
-    let m : i + 1 - from ≡ suc (i - from) = omega arith in
-    let n : from + (i - from) ≡ i = omega arith in
-    ap (λ (j : ℕ). take j (drop from s)) m
-    ∙ take-suc (drop from s) (i - from) 0 (omega (arith, length-drop from s))
-    ∙ ap (λ (b : ℕ). take (i - from) (drop from s) ++ b ∷ []) (getD-drop from s (i - from) 0 ∙ ap (λ (j : ℕ). getD s j 0) n)
 
 pub names-none : (so : List ℕ) → namesAfter so [] ≡ []
 unfolding namesAfter
@@ -50,10 +41,6 @@ module _ (s so : List ℕ) (i : ℕ) (h : i < length s) where
 -- one byte more of a name
 pub name-next : (s : List ℕ) (at i : ℕ) → at ≤ i → i < length s → (getD s i 0 ≡ 10 → ⊥) → namesAfter (part s at (i + 1)) (drop (i + 1) s) ≡ namesAfter (part s at i) (drop i s)
 name-next s at i h k f = ap (λ (so : List ℕ). namesAfter so (drop (i + 1) s)) (part-last s at i h k) ∙ sym (names-next s (part s at i) i k f)
-
-pub part-empty : (s : List ℕ) (at : ℕ) → part s at at ≡ []
-unfolding part
-part-empty s at = ap (λ (n : ℕ). take n (drop at s)) (let e : at - at ≡ 0 = omega arith in e)
 
 -- how many names does not hang on how the first begins
 same-count : (l so to : List ℕ) → length (namesAfter so l) ≡ length (namesAfter to l)

@@ -6,7 +6,8 @@ use mathlib.Core.Logic.{⊎-elim}
 use mathlib.Core.List.{List, [], _∷_, _++_, append-nil}
 use native.Mathlib.Omega.{arith}
 use borrow.Author.Tests.{lt-ltb}
-use lib.ListN.{length}
+use lib.Dec.{eqb}
+use lib.ListN.{length, length-append}
 use Rattle.base.proofs.Choice.{pick-true, pick-false, by-test}
 use Rattle.base.proofs.Numbers.{lt-or-ge}
 use Rattle.spans.specs.Spans.{fourBytes}
@@ -25,7 +26,7 @@ use Rattle.laying.specs.Puts.{totalOf}
 use Rattle.laying.proofs.Passes.{Inside, inside-append, sizeOf, size-append, size-total}
 use Rattle.laying.proofs.Writes.{length-text}
 use Rattle.writing.specs.declared.Judged.the-variants.{Fine, Bad}
-use Rattle.writing.specs.Names.{goodName, judgedFrom}
+use Rattle.writing.specs.Names.{goodName, judgedFrom, namesAfter, namesOf}
 use Rattle.writing.specs.NamePuts.{piecePuts, valuePuts, choicePuts, tokenPuts, headPuts, referencePuts, namePuts, putsFrom, putsOf}
 use Rattle.writing.proofs.NameLaws.{good-length}
 use Rattle.writing.proofs.PutLaws.{tokens-end}
@@ -153,3 +154,26 @@ puts-size n before (s ∷ ss) e =
 pub total-below : (names : List (List ℕ)) → judgedFrom 0 names ≡ Fine → length names ≤ 65536 → totalOf (putsOf names) < 2 ^ 32
 unfolding putsOf
 total-below names e h = omega (arith, size-total (putsFrom 0 [] names) (puts-inside 0 [] names), puts-size 0 [] names e)
+
+-- six bytes for a byte of input suffice: for each of a name's, and for the byte 10 behind it the head and END
+names-size : (n : ℕ) (before so l : List ℕ) → sizeOf (putsFrom n before (namesAfter so l)) ≤ 6 * (length so + length l)
+unfolding putsFrom namesAfter
+names-size n before so [] = omega arith
+names-size n before so (b ∷ l) = by-test (eqb b 10)
+    (λ e. omega (
+      arith,
+      ap (λ (ss : List (List ℕ)). sizeOf (putsFrom n before ss)) (pick-true (so ∷ namesAfter [] l) (namesAfter (so ++ b ∷ []) l) e),
+      size-append (namePuts n before so) (putsFrom (n + 1) so (namesAfter [] l)),
+      name-size n before so,
+      names-size (n + 1) so [] l,
+    ))
+    (λ e. omega (
+      arith,
+      ap (λ (ss : List (List ℕ)). sizeOf (putsFrom n before ss)) (pick-false (so ∷ namesAfter [] l) (namesAfter (so ++ b ∷ []) l) e),
+      length-append so (b ∷ []),
+      names-size n before (so ++ b ∷ []) l,
+    ))
+
+pub total-most : (input : List ℕ) → totalOf (putsOf (namesOf input)) ≤ 6 * length input
+unfolding putsOf namesOf
+total-most input = omega (arith, size-total (putsFrom 0 [] (namesOf input)) (puts-inside 0 [] (namesOf input)), names-size 0 [] [] input)

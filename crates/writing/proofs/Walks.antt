@@ -1,23 +1,25 @@
 -- Walks: what is left of a name's tokens, and of the names, leaves what all of them leave.
-use Prim.Native.Nat.{ℕ, _+_, _-_, _≤_, _<_}
+use Prim.Native.Nat.{ℕ, _+_, _-_, _*_, _≤_, _<_}
 use mathlib.Core.Path.{_≡_, refl, sym, ap, _∙_, subst}
-use mathlib.Core.List.{List, [], _++_}
+use mathlib.Core.List.{List, [], _∷_, _++_}
 use native.Mathlib.Omega.{arith}
 use lib.ListN.{length, drop}
 use Rattle.base.specs.Memory.{part}
+use Rattle.base.proofs.Lists.{part-none}
+use Rattle.tokens.specs.declared.TokenType.the-variants as type
 use Rattle.splitting.specs.declared.Choice.{Choice}
 use Rattle.splitting.specs.declared.Choice.the-variants.{End}
 use Rattle.splitting.specs.Split.{cutAt}
 use Rattle.splitting.specs.Choices.{choiceAt, choicesFrom, choicesOf}
 use Rattle.splitting.proofs.Runs.{cut-range, cut-before}
 use Rattle.laying.specs.declared.Pass.{Pass}
-use Rattle.laying.specs.Puts.{Put}
-use Rattle.laying.specs.Passes.{World, runOf, Roomy}
+use Rattle.laying.specs.Puts.{Put, put}
+use Rattle.laying.specs.Passes.{World, stepOf, runOf, Room, Roomy}
 use Rattle.laying.proofs.Passes.{run-none, run-append, roomy-append}
 use Rattle.writing.specs.Names.{namesAfter, namesOf, NameAt}
-use Rattle.writing.specs.NamePuts.{choicePuts, tokenPuts, namePuts, putsFrom, putsOf}
-use Rattle.writing.proofs.NameLaws.{names-out, part-empty}
-use Rattle.writing.proofs.PutLaws.{tokens-more, tokens-end, puts-none, puts-more}
+use Rattle.writing.specs.NamePuts.{typeNumber, choiceType, choicePuts, tokenPuts, namePuts, putsFrom, putsOf}
+use Rattle.writing.proofs.NameLaws.{names-out}
+use Rattle.writing.proofs.PutLaws.{choice-room, choice-ran, end-ran, tokens-more, tokens-end, puts-none, puts-more}
 
 -- the tokens of s after r, from position p on
 pub record Walking (pass : Pass) (r s : List ℕ) (w₀ w : World) (p a b : ℕ) : Type 0 where
@@ -65,11 +67,15 @@ module _ (pass : Pass) (r s : List ℕ) (w₀ w : World) (p a b : ℕ) (k : Walk
     last : tokenPuts s p (choicesFrom r s (128 - p) p a b) ≡ choicePuts s p End
     last = tokens-end r s (128 - p) p a b h
 
-    pub walk-last : Roomy pass (choicePuts s p End) w
-    walk-last = subst (λ (l : List Put). Roomy pass l w) last (k .room)
+    pub walk-last : Room pass (10 * p) 1 w
+    walk-last = choice-room pass s p End w (subst (λ (l : List Put). Roomy pass l w) last (k .room)) .0
 
-    pub walk-end : {v : World} → v ≡ runOf pass (choicePuts s p End) w → v ≡ runOf pass (tokenPuts s 1 (choicesOf r s)) w₀
-    walk-end d = d ∙ ap (λ (l : List Put). runOf pass l w) (sym last) ∙ k .rest
+    pub walk-end : {v : World} {n : ℕ} → n ≡ typeNumber type.End → v ≡ stepOf pass (put (10 * p) (n ∷ [])) w → v ≡ runOf pass (tokenPuts s 1 (choicesOf r s)) w₀
+    unfolding choiceType
+    walk-end {v} {n} e d =
+        choice-ran pass s p End w v v (d ∙ ap (λ (n : ℕ). stepOf pass (put (10 * p) (n ∷ [])) w) e) (end-ran pass s p End v refl)
+        ∙ ap (λ (l : List Put). runOf pass l w) (sym last)
+        ∙ k .rest
 
 -- the names from name n on, which starts at a place; the name before it lies from one place to another
 pub record Naming (pass : Pass) (input : List ℕ) (w₀ w : World) (n from to start : ℕ) : Type 0 where
@@ -80,9 +86,6 @@ pub record Naming (pass : Pass) (input : List ℕ) (w₀ w : World) (n from to s
   pub room : Roomy pass (putsFrom n (part input from to) (namesAfter [] (drop start input))) w
   pub rest : runOf pass (putsFrom n (part input from to) (namesAfter [] (drop start input))) w ≡ runOf pass (putsOf (namesOf input)) w₀
 
-no-part : (s : List ℕ) → part s 0 0 ≡ []
-no-part s = part-empty s 0
-
 pub names-start : (pass : Pass) (input : List ℕ) (w : World) → Roomy pass (putsOf (namesOf input)) w → Naming pass input w w 0 0 0 0
 unfolding putsOf namesOf
 names-start pass input w q = record {
@@ -90,8 +93,8 @@ names-start pass input w q = record {
   high = omega arith;
   within = omega arith;
   count = omega arith;
-  room = subst (λ (l : List ℕ). Roomy pass (putsFrom 0 l (namesAfter [] input)) w) (sym (no-part input)) q;
-  rest = ap (λ (l : List ℕ). runOf pass (putsFrom 0 l (namesAfter [] input)) w) (no-part input);
+  room = subst (λ (l : List ℕ). Roomy pass (putsFrom 0 l (namesAfter [] input)) w) (sym (part-none input 0 0 (omega arith))) q;
+  rest = ap (λ (l : List ℕ). runOf pass (putsFrom 0 l (namesAfter [] input)) w) (part-none input 0 0 (omega arith));
 }
 
 module _ (pass : Pass) (input : List ℕ) (w₀ w : World) (n from to start : ℕ) (k : Naming pass input w₀ w n from to start) where

@@ -2,6 +2,7 @@
 // Judged first, with nothing written; then sizes, places and bytes, the directory counting on the way.
 ghost use mathlib.Core.Path.{_≡_};
 ghost use Prim.Native.Nat.{_≤_};
+ghost use lib.Dec.{leb};
 ghost use lib.ListN.{length};
 ghost use Rattle.classes.specs.Classes.{classTable};
 ghost use Rattle.laying.specs.Puts.{totalOf, directoryOf, bytesOf};
@@ -26,17 +27,33 @@ pub enum WriteAnswer {
     Refused(Refusal),
 }
 
-// Sizes, places, bytes.
-fn fill(directory: &mut [u32], bytes: &mut [u8], table: &[u8; 256], input: &[u8])
+// The most bytes that a byte of input is written as: a zero alone is a type, a number and a width.
+const MOST: usize = 6;
+
+// Whether there is room for the bytes. Where it suffices for any names, nobody counts them.
+fn fits(directory: &mut [u32], bytes: &mut [u8], table: &[u8; 256], input: &[u8]) -> bool
+    requires { ⌜ now table ≡ classTable ⌝ }
+    requires { ⌜ Ready (now input) (now directory) ⌝ }
+    ensures { λ r. ⌜ (r ≡ leb (totalOf (putsOf (namesOf (now (input .entry))))) (length (now (bytes .entry)))) × ((now (directory .exit) ≡ now (directory .entry)) × (now (bytes .exit) ≡ now (bytes .entry))) ⌝ }
+{
+    if input.len() <= bytes.len() / MOST {
+        return true;
+    }
+    let total = puts::put_names(Pass::Total, directory, bytes, table, input);
+    total as usize <= bytes.len()
+}
+
+// Sizes, places, bytes, and how many.
+fn fill(directory: &mut [u32], bytes: &mut [u8], table: &[u8; 256], input: &[u8]) -> u32
     requires { ⌜ now table ≡ classTable ⌝ }
     requires { ⌜ Ready (now input) (now directory) ⌝ }
     requires { ⌜ totalOf (putsOf (namesOf (now input))) ≤ length (now bytes) ⌝ }
-    ensures { λ _. ⌜ (now (directory .exit) ≡ directoryOf (putsOf (namesOf (now (input .entry))))) × (now (bytes .exit) ≡ bytesOf (putsOf (namesOf (now (input .entry)))) (now (bytes .entry))) ⌝ }
+    ensures { λ r. ⌜ (r ≡ totalOf (putsOf (namesOf (now (input .entry))))) × ((now (directory .exit) ≡ directoryOf (putsOf (namesOf (now (input .entry))))) × (now (bytes .exit) ≡ bytesOf (putsOf (namesOf (now (input .entry)))) (now (bytes .entry)))) ⌝ }
 {
     laying::clear(directory);
     puts::put_names(Pass::Sizes, directory, bytes, table, input);
     laying::lay_out(directory);
-    puts::put_names(Pass::Fill, directory, bytes, table, input);
+    puts::put_names(Pass::Fill, directory, bytes, table, input)
 }
 
 // Refusal 9, or all of it.
@@ -52,11 +69,10 @@ fn lay(
     requires { ⌜ names ≡ length (namesOf (now input)) ⌝ }
     ensures { λ r. ⌜ writing r (now (directory .exit)) (now (bytes .exit)) ≡ laidOf (namesOf (now (input .entry))) (now (directory .entry)) (now (bytes .entry)) ⌝ }
 {
-    let total = puts::put_names(Pass::Total, directory, bytes, table, input);
-    if bytes.len() < total as usize {
+    if !fits(directory, bytes, table, input) {
         return WriteAnswer::Refused(Refusal::Plain(9));
     }
-    fill(directory, bytes, table, input);
+    let total = fill(directory, bytes, table, input);
     WriteAnswer::Written {
         names,
         bytes: total,

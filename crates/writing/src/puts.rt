@@ -151,13 +151,16 @@ fn put_tokens(
     let mut a: usize = 0;
     let mut b: usize = 0;
     while a < name.len() {
-        let c = splitting::choice_at(table, before, name, p, a, b);
+        let e = splitting::cut_at(table, name, p, a);
+        let f = splitting::cut_at(table, before, p, b);
+        let c = splitting::choice_at(table, before, name, p, a, e, b, f);
         sum = put_choice(pass, sum, directory, bytes, name, p, c);
-        a = splitting::cut(table, name, p, a);
-        b = splitting::cut(table, before, p, b);
+        a = e.end;
+        b = f.end;
         p += 1;
     }
-    put_choice(pass, sum, directory, bytes, name, p, Choice::End)
+    let b = type_number(TokenType::End);
+    laying::put_byte(pass, sum, directory, bytes, 10 * (p as usize), b)
 }
 
 // DUP or DIFF and its distance.

@@ -209,7 +209,7 @@ mod linked {
 }
 
 #[cfg(feature = "leaves")]
-pub use leaves::LinkedLeaves;
+pub use leaves::{list, LinkedLeaves};
 
 #[cfg(feature = "leaves")]
 mod leaves {
@@ -238,6 +238,13 @@ mod leaves {
             cursors: *const u32,
             cursors_len: usize,
         ) -> u32;
+        fn leaf_list(input: *const u8, len: usize, out: *mut u8, out_len: usize) -> u64;
+    }
+
+    /// The linked listing of an input, at the front of a buffer.
+    pub fn list(input: &[u8], out: &mut [u8]) -> u64 {
+        // SAFETY: both pointers come from live slices of the length beside them, which don't overlap.
+        unsafe { leaf_list(start(input), input.len(), start_mut(out), out.len()) }
     }
 
     /// The linked leaves. Every pointer below comes from a live slice of the length beside it,

@@ -3,10 +3,14 @@
 use crate::class;
 use crate::digits;
 use crate::directory::{Block, Spans};
+use crate::listing::listing;
 use crate::span::Span;
 
 /// "Short", "doesn't fit" or "no room".
 pub const NONE: u64 = u64::MAX;
+
+/// What every listing has room in.
+pub const LISTING_ROOM: usize = 131_072;
 
 /// Widths that a row can keep.
 const MOST_WIDTH: u32 = 254;
@@ -77,6 +81,14 @@ impl Leaves for SecondLeaves {
         let judged = judged.and_then(|()| Spans::new(block, cursors));
         judged.err().map_or(0, |reason| reason.number())
     }
+}
+
+/// The listing of an input, at the front of a buffer that has room for every listing.
+pub fn list(input: &[u8], out: &mut [u8]) -> u64 {
+    if out.len() < LISTING_ROOM {
+        return NONE;
+    }
+    put(&listing(input), out, 0)
 }
 
 fn put(printed: &[u8], buffer: &mut [u8], at: usize) -> u64 {

@@ -88,3 +88,33 @@ fn the_rest_at_position_127() {
     let twice = ["1a".repeat(63), "7\n".into(), "1a".repeat(63), "8\n".into()].concat();
     assert!(listed(twice.as_bytes()).contains(" MATCH CHAR 8 END\n"));
 }
+
+/// The library's listing beside the second program's, the whole buffer compared: generated names, spoilt ones, and
+/// buffers with room and without.
+#[cfg(feature = "leaves")]
+#[test]
+fn second_program_beside_the_linked_listing() {
+    use second::boundary;
+    use second::cases::names::{ended, good, spoil};
+    use second::cases::random::Random;
+    use second::leaf::{self, LISTING_ROOM};
+
+    let mut refused = 0;
+    for seed in 0..5_000 {
+        let mut random = Random::new(seed);
+        let mut input = ended(&good(&mut random, 60));
+        if random.percent(25) {
+            spoil(&mut random, &mut input);
+        }
+        let room = LISTING_ROOM - usize::from(random.percent(1));
+        let mut outs = [vec![0xEE; room], vec![0xEE; room]];
+        let answers = [
+            leaf::list(&input, &mut outs[0]),
+            boundary::list(&input, &mut outs[1]),
+        ];
+        assert_eq!(answers[0], answers[1], "seed {seed}");
+        assert!(outs[0] == outs[1], "seed {seed}");
+        refused += usize::from(outs[0].starts_with(b"refused"));
+    }
+    assert!((100..4_900).contains(&refused), "{refused} refused");
+}

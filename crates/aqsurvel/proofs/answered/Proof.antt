@@ -1,4 +1,4 @@
-use mathlib.Core.Path.{_≡_, refl, sym, ap, _∙_}
+use mathlib.Core.Path.{sym, ap, _∙_}
 use Rattle.aqsurvel.specs.Answers.{readNumber}
 use borrow.Author.Needs.{needs}
 use Rattle.aqsurvel.proofs.answered.Statement.{statement}
@@ -28,7 +28,7 @@ returns c = c .pack .ensures ∙ sym (ap (readNumber _) (c .before .before .a .g
 
 returns-2 : tie.Need-returns-2
 unfolding readNumber
-returns-2 c = c .pack2 .ensures ∙ sym (ap (readNumber _) (c .before .enum-told .given .1))
+returns-2 c = rw (c .pack2 .ensures, c .before .enum-told .given .1)
 
 returns-3 : tie.Need-returns-3
 unfolding readNumber

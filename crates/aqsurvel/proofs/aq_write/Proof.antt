@@ -1,4 +1,4 @@
-use mathlib.Core.Path.{_≡_, refl, sym, ap, _∙_}
+use mathlib.Core.Path.{sym, ap, _∙_}
 use Rattle.aqsurvel.specs.Answers.{writtenNumber}
 use Rattle.aqsurvel.specs.Calls.{writtenTotals}
 use Rattle.aqsurvel.proofs.Laws.{write-call}

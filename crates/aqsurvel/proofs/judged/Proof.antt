@@ -1,4 +1,4 @@
-use mathlib.Core.Path.{_≡_, refl, sym, ap, _∙_}
+use mathlib.Core.Path.{sym, ap, _∙_}
 use Rattle.aqsurvel.specs.Answers.{verdictNumber}
 use borrow.Author.Needs.{needs}
 use Rattle.aqsurvel.proofs.judged.Statement.{statement}
@@ -28,7 +28,7 @@ returns c = c .pack .ensures ∙ sym (ap verdictNumber (c .before .enum-told .gi
 
 returns-2 : tie.Need-returns-2
 unfolding verdictNumber
-returns-2 c = c .pack2 .ensures ∙ sym (ap verdictNumber (c .before .enum-told2 .given .1))
+returns-2 c = rw (c .pack2 .ensures, c .before .enum-told2 .given .1)
 
 returns-3 : tie.Need-returns-3
 unfolding verdictNumber

@@ -1,4 +1,4 @@
-use mathlib.Core.Path.{_≡_, refl, sym, ap, _∙_}
+use mathlib.Core.Path.{sym, ap, _∙_}
 use Rattle.aqsurvel.specs.Answers.{refusalNumber}
 use borrow.Author.Needs.{needs}
 use Rattle.aqsurvel.proofs.refused.Statement.{statement}

@@ -1,4 +1,4 @@
-use mathlib.Core.Path.{_≡_, refl, sym, ap, _∙_}
+use mathlib.Core.Path.{refl}
 use Rattle.aqsurvel.specs.Answers.{stateOut}
 use Rattle.aqsurvel.proofs.state_out.Statement.{statement}
 use Rattle.aqsurvel.proofs.state_out.Tie as tie

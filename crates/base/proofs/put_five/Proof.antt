@@ -1,5 +1,6 @@
 use native.Mathlib.Omega.{arith}
 use lib.ListN.{length-set}
+use denote.Ref.{now}
 use Rattle.base.proofs.Memory.{five-written}
 use borrow.Author.Needs.{needs}
 use Rattle.base.proofs.put_five.Statement.{statement}
@@ -51,7 +52,9 @@ same-length : tie.Need-same-length
 same-length c = search needs
 
 returns : tie.Need-returns
-returns c = five-written _ _ _ _ _ _ _ (search needs)
+returns c =
+    let a = c .args in
+    rw (← five-written (now (a .table)) (a .at) (a .a) (a .b) (a .c) (a .d) (a .e) (search needs))
 
 pub put-five-spec : {M : Type 1} → statement M
 put-five-spec =

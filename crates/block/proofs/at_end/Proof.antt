@@ -5,7 +5,8 @@ use Prim.Native.Nat.{_≤_, _-_, _+_}
 use mathlib.Core.Path.{_≡_}
 use Rattle.base.specs.Choice.{both}
 use Rattle.block.specs.Block.{endOf, cursorOf, atEnd, atEndFrom, allAtEnd}
-use Rattle.block.proofs.Every.{both-none, and-one, every-turn, every-done}
+use Rattle.base.proofs.Choice.{both-none, and-both}
+use Rattle.base.proofs.Every.{every-turn, every-done}
 use Rattle.block.proofs.at_end.Statement.{statement}
 use Rattle.block.proofs.at_end.Tie as tie
 
@@ -47,7 +48,7 @@ unfolding atEnd endOf cursorOf
 loop-again c =
     let l = c .before .before .before .loop in
     let a = c .before .before .before .before .args in
-    (search needs, every-turn (atEnd (now (a .dir)) (now (a .cursors))) (l .i) (1290 - l .i) (l .ok) _ (l .inv .1) (1290 - (l .i + 1)) (omega arith) (rw and-one))
+    (search needs, every-turn (atEnd (now (a .dir)) (now (a .cursors))) (l .i) (1290 - l .i) (l .ok) _ (l .inv .1) (1290 - (l .i + 1)) (omega arith) (rw and-both))
 
 returns : tie.Need-returns Inv-loop μ-loop
 unfolding allAtEnd

@@ -5,7 +5,8 @@ use Prim.Native.Nat.{_≤_, _-_, _+_}
 use mathlib.Core.Path.{_≡_}
 use Rattle.base.specs.Choice.{both}
 use Rattle.block.specs.Block.{startOf, endOf, spanSound, soundFrom}
-use Rattle.block.proofs.Every.{both-none, and-two, every-turn, every-done}
+use Rattle.base.proofs.Choice.{both-none, and-both, both-both}
+use Rattle.base.proofs.Every.{every-turn, every-done}
 use Rattle.block.proofs.spans_sound.Statement.{statement}
 use Rattle.block.proofs.spans_sound.Tie as tie
 
@@ -50,7 +51,7 @@ unfolding spanSound startOf endOf
 loop-again c =
     let l = c .before .before .before .loop in
     let a = c .before .before .before .before .args in
-    (search needs, every-turn (spanSound (a .n) (now (a .dir))) (l .i) (1290 - l .i) (l .ok) _ (l .inv .1) (1290 - (l .i + 1)) (omega arith) (rw and-two))
+    (search needs, every-turn (spanSound (a .n) (now (a .dir))) (l .i) (1290 - l .i) (l .ok) _ (l .inv .1) (1290 - (l .i + 1)) (omega arith) (simp (and-both, both-both)))
 
 returns : tie.Need-returns Inv-loop μ-loop
 returns c = every-done _ _ _ _ _ (c .before .loop .inv .1) (omega arith)

@@ -4,6 +4,7 @@ use mathlib.Core.Bool.{true}
 use borrow.Author.Tests.{not-true, not-false}
 use denote.Ref.{now}
 use lib.ListN.{length}
+use Rattle.base.specs.Memory.{part}
 use Rattle.kept.specs.Tables.{room}
 use Rattle.kept.specs.Judgement.{textCounts, entryText}
 use Rattle.kept.proofs.Laws.{text-counted, text-inside}
@@ -55,29 +56,44 @@ cast-end c = search needs
 add-end : tie.Need-add-end
 add-end c = search needs
 
-same-bytes-requires : tie.Need-same-bytes-requires
-same-bytes-requires c κs =
+sub-same : tie.Need-sub-same
+sub-same c = search needs
+
+part-same-start : tie.Need-part-same-start
+part-same-start c = search needs
+
+part-same-end : tie.Need-part-same-end
+part-same-end c =
     let b = c .before .before .before .before .before in
     let a = b .before .before .before .before .before .before .before .args in
     let t = text-counted (a .state) (now (a .text)) (now (a .names)) (counts-hold (b .before .before)) in
     let i = text-inside (a .state) (c .before .before .before .before .entry-at .result) (text-holds (c .before .before)) in
-    (omega arith, omega arith)
+    omega arith
+
+same-requires : tie.Need-same-requires
+same-requires c κs = search needs
 
 returns-4 : tie.Need-returns-4
-unfolding nameText
+unfolding nameText part
 returns-4 c =
-    let e = c .before .before .before .before in
+    let e = c .before .before .before .before .before in
     let b = e .before .before .before in
-    equal _ _ _ _ _ (counts-hold (b .before .before)) (omega arith) (e .before .before .entry-at .ensures) (text-holds e)
-    (sym (c .before .same-bytes .ensures) ∙ c .if4 .taken)
+    let a = b .before .before .before .before .before .before .before .args in
+    let v =
+    equal (a .number) (now (a .claimed)) (a .state) (now (a .text)) (now (a .names)) (counts-hold (b .before .before)) (omega arith) (e .before .before .entry-at .ensures) (text-holds e)
+    (sym (c .before .same .ensures) ∙ c .if4 .taken) in
+    rw (← v)
 
 returns-5 : tie.Need-returns-5
-unfolding nameText
+unfolding nameText part
 returns-5 c =
-    let e = c .before .before .before .before in
+    let e = c .before .before .before .before .before in
     let b = e .before .before .before in
-    unequal _ _ _ _ _ (counts-hold (b .before .before)) (omega arith) (e .before .before .entry-at .ensures) (text-holds e)
-    (sym (c .before .same-bytes .ensures) ∙ c .if4 .left)
+    let a = b .before .before .before .before .before .before .before .args in
+    let v =
+    unequal (a .number) (now (a .claimed)) (a .state) (now (a .text)) (now (a .names)) (counts-hold (b .before .before)) (omega arith) (e .before .before .entry-at .ensures) (text-holds e)
+    (sym (c .before .same .ensures) ∙ c .if4 .left) in
+    rw (← v)
 
 pub claim-spec : {M : Type 1} → statement M
 claim-spec =
@@ -92,6 +108,9 @@ claim-spec =
     cast-start
     cast-end
     add-end
-    same-bytes-requires
+    sub-same
+    part-same-start
+    part-same-end
+    same-requires
     returns-4
     returns-5)

@@ -1,19 +1,11 @@
 use borrow.Author.Needs.{needs}
 use native.Mathlib.Omega.{arith}
-use Prim.Native.Nat.{ℕ, _-_, _≤_}
-use mathlib.Core.Path.{_≡_, refl, sym, _∙_}
-use mathlib.Core.List.{List}
+use Prim.Native.Nat.{_-_}
+use mathlib.Core.Path.{refl, sym, _∙_}
 use denote.Ref.{now}
-use Rattle.base.specs.Memory.{part}
-use Rattle.classes.specs.Classes.{allAllowed}
-use Rattle.classes.proofs.Laws.{barred-here, allowed-here, allowed-none}
+use Rattle.classes.proofs.Laws.{Passed, barred-class, allowed-class, barred-here, allowed-here, allowed-none}
 use Rattle.classes.proofs.allowed.Statement.{statement}
 use Rattle.classes.proofs.allowed.Tie as tie
-
--- what is left decides as the whole does
-record Passed (bytes : List ℕ) (from to i : ℕ) : Type 0 where
-  within : i ≤ to
-  rest : allAllowed (part bytes i to) ≡ allAllowed (part bytes from to)
 
 abbrev Inv-loop : tie.InvT-loop
 Inv-loop table bytes from to i₀ i = Passed bytes from to i
@@ -34,7 +26,7 @@ returns : tie.Need-returns Inv-loop μ-loop
 returns c =
     let l = c .before .before .before .before .loop in
     let a = c .before .before .before .before .before .before .args in
-    sym (barred-here (now (a .bytes)) (l .i) (a .to) (omega arith) (omega arith) (sym (c .before .class-in .ensures) ∙ c .if1 .taken)) ∙ l .inv .rest
+    sym (barred-here (now (a .bytes)) (l .i) (a .to) (omega arith) (omega arith) (barred-class _ (sym (c .before .class-in .ensures) ∙ c .if1 .taken))) ∙ l .inv .rest
 
 add-i : tie.Need-add-i Inv-loop μ-loop
 add-i c = search needs
@@ -48,7 +40,7 @@ loop-again c =
     let a = c .before .before .before .before .before .before .args in
     record {
       within = search needs;
-      rest = sym (allowed-here (now (a .bytes)) (l .i) (a .to) (omega arith) (omega arith) (λ e. c .if1 .left (c .before .class-in .ensures ∙ e))) ∙ l .inv .rest;
+      rest = sym (allowed-here (now (a .bytes)) (l .i) (a .to) (omega arith) (omega arith) (allowed-class _ (λ e. c .if1 .left (c .before .class-in .ensures ∙ e)))) ∙ l .inv .rest;
     }
 
 returns-2 : tie.Need-returns-2 Inv-loop μ-loop

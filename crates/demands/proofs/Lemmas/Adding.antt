@@ -5,6 +5,8 @@ use mathlib.Core.List.{List, [], _∷_, _++_}
 use native.Mathlib.Omega.{arith}
 use lib.ListN.{length, length-append}
 use Rattle.base.specs.Memory.{written}
+use Rattle.base.proofs.Holding.{Holds, holds-written, holds-left, holds-right, holds-part, holds-first}
+use Rattle.kept.proofs.Frame.{entry-holds}
 use Rattle.block.specs.Open.{Open}
 use Rattle.kept.specs.declared.Entry.{Entry}
 use Rattle.kept.specs.Tables.{Kept, entryAt}
@@ -18,13 +20,15 @@ use Rattle.demands.specs.Right.{Refers}
 use Rattle.demands.specs.Adds.{Adds, Kind, by-dup, by-diff}
 use Rattle.demands.specs.Refusals.{Ready}
 use Rattle.demands.proofs.Lemmas.Moves.{Moves}
-use Rattle.demands.proofs.Lemmas.Writes.{Holds, holds-written, holds-left, holds-right, holds-part, holds-first, alike-written}
-use Rattle.demands.proofs.Lemmas.Laying.{entry, entry-holds}
+use Rattle.demands.proofs.Lemmas.Writes.{alike-written}
 use Rattle.demands.proofs.Lemmas.Making.{Made, dup, diff, Sized, sized, Room}
+
+abbrev pub entry : ℕ → ℕ → ℕ → ℕ → ℕ → Entry
+entry a l f r d = record { start = a; length = l; first = f; rows = r; distance = d }
 
 -- rule 2 and what was taken, from how the name was made
 pub refers-made : (s : Source) (m : Kept) (x : Draft) (first rows d : ℕ) → Made s m x first rows d → Refers (m .state .names) d
-refers-made s m x first rows d (dup b n e w) = (λ z. absurd (omega arith), λ a. n)
+refers-made s m x first rows d (dup b n e w) = (λ z. absurd (omega arith), λ a. (omega (arith, n .0), n .1))
 refers-made s m x first rows d (diff e y b r w v) = r
 
 record Moved (s : Source) (m : Kept) (x : Draft) (e : Entry) : Type 0 where
@@ -62,7 +66,7 @@ module _ (s : Source) (m : Kept) (x : Draft) (first rows d : ℕ) (r : Ready s m
         rows = x .count;
         taken = v .taken;
         next = refl;
-        counts = refl;
+        counts = cc;
         text = alike-written (m .text) _ (x .text ++ (10 ∷ [])) _ (omega (arith, length-append (x .text) (10 ∷ []))) (f .text);
         written = holds-part _ _ (x .text) (holds-left _ _ (x .text) (10 ∷ []) t);
         ended = holds-first _ _ 10 [] (holds-right _ _ (x .text) (10 ∷ []) t);

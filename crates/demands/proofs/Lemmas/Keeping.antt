@@ -7,6 +7,9 @@ use native.Mathlib.Omega.{arith}
 use native.Mathlib.Nat.{add-zero, eq-or-lt-of-le}
 use lib.ListN.{length}
 use Rattle.base.proofs.Numbers.{lt-or-ge}
+use Rattle.base.proofs.Holding.{Holds, holds-written, holds-left, holds-right, holds-first, holds-part}
+use Rattle.kept.proofs.Frame.{entry-holds}
+use Rattle.kept.proofs.Later.{Later}
 use Rattle.kept.specs.Tables.{Kept, entryAt, rowAt, keeping}
 use Rattle.kept.specs.Inside.{Counted}
 use Rattle.claims.specs.Claims.{nameText}
@@ -18,12 +21,11 @@ use Rattle.demands.specs.Right.{RowRight, Home, NameRight, Right}
 use Rattle.demands.specs.Runs.{lent, Lent, read, left, Fresh, Call, reading, claiming, after}
 use Rattle.demands.specs.Adds.{Adds}
 use Rattle.demands.specs.Refusals.{Ready}
-use Rattle.demands.proofs.Lemmas.Writes.{Holds, holds-written, holds-left, holds-right, holds-first, holds-part}
 use Rattle.demands.proofs.Lemmas.Spelling.{rowsFrom, some-token}
-use Rattle.demands.proofs.Lemmas.Laying.{Laid, laid, entry, entry-holds}
+use Rattle.demands.proofs.Lemmas.Laying.{Laid, laid}
 use Rattle.demands.proofs.Lemmas.Making.{Made, dup, diff, Sized, sized, Room, made, room-each}
-use Rattle.demands.proofs.Lemmas.Later.{Later, later-adds, home-later, row-right-later, rows-print-later, name-right-later}
-use Rattle.demands.proofs.Lemmas.Adding.{kept-adds, refers-made}
+use Rattle.demands.proofs.Lemmas.Later.{later-adds, home-later, row-right-later, rows-print-later, name-right-later}
+use Rattle.demands.proofs.Lemmas.Adding.{entry, kept-adds, refers-made}
 use Rattle.block.specs.declared.State.{State}
 use Rattle.block.specs.Block.{starts, state}
 use Rattle.block.proofs.Laws.{Accepted, accepted}
@@ -52,7 +54,7 @@ module _ (s : Source) (m : Kept) (c : Counted m)
         right = λ j a l. absurd (omega arith);
         within = λ j a l. absurd (omega arith);
         mine = λ a. absurd (omega arith);
-        prints = rows-print-later m w h c each-row _ _ (e .rows .ends) ∙ each-name i (omega arith) .prints;
+        prints = rows-print-later m w h each-row _ _ (e .rows .ends) ∙ each-name i (omega arith) .prints;
         one = e .rows .some;
         few = e .rows .most;
         used = omega (arith, e .rows .ends);
@@ -112,7 +114,7 @@ module _ (s : Source) (m : Kept) (c : Counted m)
 
     rows-right : (j : ℕ) → j < now .state .rows → RowRight (now .state .text) (now .text) (now .rows) j
     unfolding kept
-    rows-right j l = ⊎-elim (λ a. row-right-later m now later c each-row j a) (λ a. owns .right j a l) (lt-or-ge j (m .state .rows))
+    rows-right j l = ⊎-elim (λ a. row-right-later m now later each-row j a) (λ a. owns .right j a l) (lt-or-ge j (m .state .rows))
 
     entered : entryAt (now .names) (m .state .names) ≡ entry (m .state .text) (length (x .text)) first rows d
     unfolding kept
@@ -134,7 +136,7 @@ module _ (s : Source) (m : Kept) (c : Counted m)
 
     homes : (j : ℕ) → j < now .state .rows → Home now j
     unfolding kept
-    homes j l = ⊎-elim (λ a. home-later m now later c j a (each-home j a)) (λ a. own-home j a l) (lt-or-ge j (m .state .rows))
+    homes j l = ⊎-elim (λ a. home-later m now later j a (each-home j a)) (λ a. own-home j a l) (lt-or-ge j (m .state .rows))
 
     name-right : NameRight now (m .state .names)
     unfolding kept nameText
@@ -152,7 +154,7 @@ module _ (s : Source) (m : Kept) (c : Counted m)
     unfolding kept
     names-right i l =
         ⊎-elim (λ a. subst (NameRight now) (sym a) name-right)
-        (λ a. name-right-later m now later c each-row i a (each-name i a))
+        (λ a. name-right-later m now later each-row i a (each-name i a))
         (eq-or-lt-of-le {n = i} {m = m .state .names} (omega arith))
 
     -- all of it

@@ -4,48 +4,34 @@ use mathlib.Core.Path.{_≡_, refl, sym, ap, ap₂, _∙_, subst}
 use mathlib.Core.Logic.{⊎-elim}
 use mathlib.Core.List.{List, [], _∷_, _++_}
 use native.Mathlib.Omega.{arith}
-use native.Mathlib.Nat.{add-zero, eq-or-lt-of-le}
-use lib.ListN.{length, getD, length-append}
+use native.Mathlib.Nat.{eq-or-lt-of-le}
+use lib.ListN.{length, length-append}
 use Rattle.base.specs.Choice.{pick}
 use Rattle.base.specs.Memory.{part}
+use Rattle.base.proofs.Holding.{Holds, holds-left, holds-right, holds-part}
 use Rattle.tokens.specs.declared.Token.{Token}
 use Rattle.tokens.specs.declared.Token.the-variants.{String, Char, Digits, Digits0}
 use Rattle.tokens.specs.Tokens.{bytesOf, kindOf, numberOf, widthOf, lengthOf, rowOf}
 use Rattle.kept.specs.declared.Row.{Row}
-use Rattle.kept.specs.declared.Entry.{Entry}
-use Rattle.kept.specs.Tables.{rowAt, entryAt}
+use Rattle.kept.specs.Tables.{rowAt}
 use Rattle.kept.proofs.Laws.{kind-inside}
+use Rattle.kept.proofs.Frame.{row-holds}
 use Rattle.demands.specs.Printing.{rowText, rowPrints, rowsPrint}
 use Rattle.demands.specs.Right.{RowRight}
 use Rattle.demands.proofs.Lemmas.Spelling.{tokenRow, Fit, Fits, spell, rowsFrom}
-use Rattle.demands.proofs.Lemmas.Writes.{Holds, holds-left, holds-right, holds-part, holds-at}
 
 -- a token whose row's text is what it prints: the row prints it too
 row-prints : (bytes kept text : List ℕ) (t : Token) (at : ℕ) → rowText text (tokenRow t at) ≡ bytesOf bytes kept t → rowPrints text (tokenRow t at) ≡ bytesOf bytes kept t
 unfolding rowPrints pick kindOf numberOf widthOf bytesOf
 row-prints bytes kept text (String t) at e = e
 row-prints bytes kept text (Char b) at e = e
-row-prints bytes kept text (Digits n) at e = refl
-row-prints bytes kept text (Digits0 p) at e = refl
+row-prints bytes kept text (Digits n) at e = cc
+row-prints bytes kept text (Digits0 p) at e = cc
 
--- a row that stands in the table
-pub row-holds : (rows : List ℕ) (i : ℕ) (t : Token) (at : ℕ) → Holds rows (5 * i) (rowOf t at) → rowAt rows i ≡ tokenRow t at
-unfolding rowAt rowOf
-row-holds rows i t at h =
-    let g : (k : ℕ) → k < 5 → getD rows (5 * i + k) 0 ≡ getD (rowOf t at) k 0 = holds-at rows (5 * i) (rowOf t at) h in
-    let z : getD rows (5 * i) 0 ≡ kindOf t = ap (λ n. getD rows n 0) (sym (add-zero (5 * i))) ∙ g 0 (omega arith) in
-    rw (z, g 1 (omega arith), g 2 (omega arith), g 3 (omega arith), g 4 (omega arith))
-
--- an entry that stands in the table
-abbrev pub entry : ℕ → ℕ → ℕ → ℕ → ℕ → Entry
-entry a l f r d = record { start = a; length = l; first = f; rows = r; distance = d }
-
-pub entry-holds : (names : List ℕ) (i a l f r d : ℕ) → Holds names (5 * i) (a ∷ l ∷ f ∷ r ∷ d ∷ []) → entryAt names i ≡ entry a l f r d
-unfolding entryAt
-entry-holds names i a l f r d h =
-    let g : (k : ℕ) → k < 5 → getD names (5 * i + k) 0 ≡ getD (a ∷ l ∷ f ∷ r ∷ d ∷ []) k 0 = holds-at names (5 * i) (a ∷ l ∷ f ∷ r ∷ d ∷ []) h in
-    let z : getD names (5 * i) 0 ≡ a = ap (λ n. getD names n 0) (sym (add-zero (5 * i))) ∙ g 0 (omega arith) in
-    rw (z, g 1 (omega arith), g 2 (omega arith), g 3 (omega arith), g 4 (omega arith))
+-- a token's row that stands in the table
+token-row : (rows : List ℕ) (i : ℕ) (t : Token) (at : ℕ) → Holds rows (5 * i) (rowOf t at) → rowAt rows i ≡ tokenRow t at
+unfolding rowOf
+token-row rows i t at h = row-holds rows i (kindOf t) (numberOf t) (widthOf t) at (lengthOf t) h
 
 module _ (bytes kept text rows : List ℕ) (used : ℕ) where
   -- the text of a token that stands in the buffer
@@ -58,7 +44,7 @@ module _ (bytes kept text rows : List ℕ) (used : ℕ) where
   row-right t at i f l h g k =
       let e : rowText text (tokenRow t at) ≡ bytesOf bytes kept t = text-holds t at f h in
       let p : rowPrints text (tokenRow t at) ≡ rowText text (tokenRow t at) = row-prints bytes kept text t at e ∙ sym e in
-      let r : rowAt rows i ≡ tokenRow t at = row-holds rows i t at g in
+      let r : rowAt rows i ≡ tokenRow t at = token-row rows i t at g in
       record {
         fits = rw r (record { ends = k; kind = kind-inside (tokenRow t at) (f .kind l at) });
         prints = subst (λ (z : Row). rowPrints text z ≡ rowText text z) (sym r) p;
@@ -66,7 +52,7 @@ module _ (bytes kept text rows : List ℕ) (used : ℕ) where
 
   row-gives : (t : Token) (at i : ℕ) → Fit bytes kept t → Holds text at (bytesOf bytes kept t) → Holds rows (5 * i) (rowOf t at)
       → rowPrints text (rowAt rows i) ≡ bytesOf bytes kept t
-  row-gives t at i f h g = ap (rowPrints text) (row-holds rows i t at g) ∙ row-prints bytes kept text t at (text-holds t at f h)
+  row-gives t at i f h g = ap (rowPrints text) (token-row rows i t at g) ∙ row-prints bytes kept text t at (text-holds t at f h)
 
   -- tokens one after another
   pub record Laid (ts : List Token) (at i : ℕ) : Type 0 where
@@ -85,7 +71,7 @@ module _ (bytes kept text rows : List ℕ) (used : ℕ) where
       let m : length (b ++ spell bytes kept ts) ≡ length b + length (spell bytes kept ts) = length-append b (spell bytes kept ts) in
       let hb : Holds text at b = holds-left text at b (spell bytes kept ts) h in
       let gb : Holds rows (5 * i) (rowOf t at) = holds-left rows (5 * i) (rowOf t at) (rowsFrom ts (at + lengthOf t)) g in
-      let r : rowAt rows i ≡ tokenRow t at = row-holds rows i t at gb in
+      let r : rowAt rows i ≡ tokenRow t at = token-row rows i t at gb in
       let here : RowRight used text rows i = row-right t at i (f .0 .0) (f .0 .1) hb gb (omega arith) in
       let rest : Laid ts (at + lengthOf t) (i + 1) =
       laid ts (at + lengthOf t) (i + 1) (f .1)

@@ -14,6 +14,8 @@ use Rattle.tokens.specs.Tokens.{lengthOf, rowOf}
 use Rattle.kept.specs.Tables.{Kept}
 use Rattle.kept.specs.Inside.{Counted, EntryInside}
 use Rattle.steps.specs.Source.{Source, Earlier}
+use Rattle.steps.specs.Sound.{Rows}
+use Rattle.steps.proofs.Laws.{rows-none, rows-judged}
 use Rattle.names.specs.Names.{Draft, draft}
 use Rattle.kept.proofs.Laws.{room-holds}
 use Rattle.reading.specs.Reads.{roomFor, headPast, rowsOf, none, entryBack}
@@ -23,7 +25,7 @@ use Rattle.demands.specs.Refusals.{Back, Ready}
 use Rattle.demands.proofs.Lemmas.Ways.{Origin, copied, begun, leant}
 use Rattle.demands.proofs.Lemmas.Traces.{Trace, trace}
 use Rattle.demands.proofs.Lemmas.Moves.{Moves, head-moves, name-moves}
-use Rattle.demands.proofs.Lemmas.Spelling.{Leans, Spelled, spelled, rowsFrom}
+use Rattle.demands.proofs.Lemmas.Spelling.{Spelled, spelled, rowsFrom}
 
 pub data Made (s : Source) (m : Kept) : Draft → ℕ → ℕ → ℕ → Type 0 where
   dup : (d : ℕ) → Back (m .state .names) d → EntryInside (m .state) (m .rows) (entryBack m d) → Moves (s .dir) (s .cur) (headPast (s .cur) 5) (headTakes 5)
@@ -37,14 +39,14 @@ made s m x first rows d r (copied b h k n f) =
     dup b n f (head-moves s (r .opened .table) h 5 (omega arith) (omega arith) k)
 made s m x first rows d r (begun y h k z q) =
     let t : Trace s (none m) (m .state .text) 1 (draft [] [] 0 (headPast (s .cur) 6)) x = trace s (none m) (m .state .text) (headPast (s .cur) 6) x q in
-    let l : Leans (none m) (m .state .text) = record { room = r .counts .used; rows = λ j a l. absurd (omega arith) } in
+    let l : Rows (m .state .text) (none m) = rows-none (m .state .text) (m .text) (m .rows) (r .counts .used) in
     diff (none m) x 0 (λ e. refl, λ a. absurd (omega arith)) (spelled s (none m) (m .state .text) (r .opened) l 1 _ x t (omega arith) (omega arith))
     (name-moves s (r .opened .table) h (none m) (m .state .text) x k t)
 made s m x first rows d r (leant y b h k n f q) =
     let e : Earlier = rowsOf m (entryBack m d) in
     let t : Trace s e (m .state .text) 1 (draft [] [] 0 (headPast (s .cur) 6)) x = trace s e (m .state .text) (headPast (s .cur) 6) x q in
-    let l : Leans e (m .state .text) = record { room = r .counts .used; rows = f .each } in
-    diff e x d (λ z. absurd (omega arith), λ a. n) (spelled s e (m .state .text) (r .opened) l 1 _ x t (omega arith) (omega arith))
+    let l : Rows (m .state .text) e = rows-judged (m .state) (m .text) (m .rows) (entryBack m d) (r .counts .rowsUsed) (r .counts .used) f in
+    diff e x d (λ z. absurd (omega arith), λ a. (omega (arith, n .0), n .1)) (spelled s e (m .state .text) (r .opened) l 1 _ x t (omega arith) (omega arith))
     (name-moves s (r .opened .table) h e (m .state .text) x k t)
 
 -- its size

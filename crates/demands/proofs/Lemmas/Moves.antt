@@ -7,7 +7,7 @@ use native.Mathlib.Nat.{add-zero, add-assoc}
 use borrow.Author.Tests.{eqb-true, eqb-false, eq-eqb, ne-eqb}
 use lib.Dec.{eqb}
 use lib.ListN.{length, getD, set, length-set}
-use Rattle.base.proofs.Choice.{by-test, pick-true, pick-false}
+use Rattle.base.proofs.Choice.{by-test, pick-true, pick-false, pick-holds}
 use Rattle.spans.specs.declared.Cursor.{Cursor}
 use Rattle.spans.specs.Spans.{zeroFrom, textEnd}
 use Rattle.block.specs.Block.{spanOf, endOf, cursorOf}
@@ -19,7 +19,6 @@ use Rattle.steps.specs.Source.{Source, Earlier, byteIn}
 use Rattle.names.specs.Names.{Draft, draft, past, typeIn, valuePast, grown, ended}
 use Rattle.reading.specs.Reads.{headPast}
 use Rattle.demands.specs.Takes.{from, textTakes, valueTakes, positionTakes, takesFrom, headTakes}
-use Rattle.steps.proofs.Picks.{pick-holds}
 use Rattle.demands.proofs.Lemmas.Streams.{Has}
 use Rattle.demands.proofs.Lemmas.Traces.{textStop, Value, string, char, digits, digits0, delta, delta0, match, Trace, last, then}
 
@@ -94,7 +93,7 @@ module _ (s : Source) (e : Earlier) (p : ℕ) (l : p ≤ 128) (cur : List ℕ) (
 
   pub value-moves : (y : TokenType) (t : Token) (c : Cursor) → Value s e p y t c → Moves (s .dir) cur (valuePast y p (c .0) cur) (valueTakes s p y)
   unfolding valuePast valueTakes textTakes
-  value-moves y t c (string h) = one 1 (textStop s p + 1 - cursorOf (s .cur) (spanOf p 1)) (textStop s p + 1) (omega arith) (omega arith) (omega (arith, text-on s p)) (omega arith)
+  value-moves y t c (string h) = one 1 (textTakes s p) (textStop s p + 1) (omega arith) (omega arith) (omega (arith, text-on s p)) (omega arith)
   value-moves y t c (char b h) = one 2 1 _ (omega arith) (omega arith) refl h
   value-moves y t c (digits n h) = one 7 4 _ (omega arith) (omega arith) refl h
   value-moves y t c (digits0 n w h g f) =

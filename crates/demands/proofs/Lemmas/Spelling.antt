@@ -1,15 +1,15 @@
 -- A name is its tokens: its text is what they print, and its rows are theirs.
-use Prim.Native.Nat.{ℕ, _+_, _-_, _*_, _≤_, _<_}
+use Prim.Native.Nat.{ℕ, _+_, _-_, _*_, _≤_}
 use mathlib.Core.Path.{_≡_, refl, sym, ap, _∙_}
 use mathlib.Core.Bool.{Bool, true, false}
-use mathlib.Core.List.{List, [], _∷_, _++_, append-assoc}
+use mathlib.Core.List.{List, [], _∷_, _++_, append-assoc, append-nil}
 use native.Mathlib.Omega.{arith}
 use native.Mathlib.Nat.{add-zero}
 use borrow.Author.Tests.{leb-true, le-leb, eqb-true}
 use lib.Dec.{leb, eqb}
 use lib.ListN.{length, length-append}
 use Rattle.base.specs.Choice.{pick}
-use Rattle.base.proofs.Choice.{both-true, both-of}
+use Rattle.base.proofs.Choice.{both-true, both-of, pick-holds}
 use Rattle.base.proofs.Memory.{length-part}
 use Rattle.digits.specs.Digits.{fitsWidth}
 use Rattle.digits.proofs.Laws.{length-padded}
@@ -22,13 +22,12 @@ use Rattle.tokens.specs.declared.Token.{Token}
 use Rattle.tokens.specs.declared.Token.the-variants.{String, Char, Digits, Digits0}
 use Rattle.tokens.specs.Tokens.{bytesOf, kindOf, numberOf, widthOf, lengthOf, rowOf}
 use Rattle.kept.specs.declared.Row.{Row}
-use Rattle.kept.specs.Tables.{rowAt}
 use Rattle.kept.specs.Judgement.{rowKind}
 use Rattle.kept.specs.Inside.{RowInside}
 use Rattle.steps.specs.Source.{Source, Earlier}
+use Rattle.steps.specs.Sound.{Rows}
 use Rattle.steps.specs.Steps.{tokenOf, hasRow, rowHere}
 use Rattle.names.specs.Names.{Draft, grown, ended, printable}
-use Rattle.steps.proofs.Picks.{pick-holds}
 use Rattle.demands.proofs.Lemmas.Moves.{text-on}
 use Rattle.demands.proofs.Lemmas.Traces.{Value, string, char, digits, digits0, delta, delta0, match, Trace, last, then}
 
@@ -76,12 +75,7 @@ module _ (bytes text : List ℕ) where
       (λ b. pick-holds (Fit bytes text) (eqb (r .kind) 4) _ _ (λ c. padded-fit _ _ (f .kind .number (eqb-true _ _ c)))
       (λ c. digits-fit _)))
 
--- the rows that a name leans on are in order
-pub record Leans (e : Earlier) (used : ℕ) : Type 0 where
-  pub room : used ≤ length (e .text)
-  pub rows : (j : ℕ) → e .first ≤ j → j < e .first + e .count → RowInside used (rowAt (e .rows) j)
-
-module _ (s : Source) (e : Earlier) (used : ℕ) (opened : Open (s .bytes) (s .dir) (s .cur)) (leans : Leans e used) where
+module _ (s : Source) (e : Earlier) (used : ℕ) (opened : Open (s .bytes) (s .dir) (s .cur)) (rows : Rows used e) where
   pub value-fit : (p : ℕ) → 1 ≤ p → p ≤ 128 → (y : TokenType) (t : Token) (c : Cursor) → Value s e p y t c → Fit (s .bytes) (e .text) t
   unfolding hasRow rowHere spanOf
   value-fit p a l y t c (string h) =
@@ -92,7 +86,7 @@ module _ (s : Source) (e : Earlier) (used : ℕ) (opened : Open (s .bytes) (s .d
   value-fit p a l y t c (delta n h) = digits-fit _ _ n
   value-fit p a l y t c (delta0 n w h f) = padded-fit _ _ n w f
   value-fit p a l y t c (match b h) =
-      match-fit (s .bytes) (e .text) used (rowHere e p) (leans .room) (leans .rows (e .first + (p - 1)) (omega arith) (omega (arith, leb-true p (e .count) h)))
+      match-fit (s .bytes) (e .text) used (rowHere e p) (rows .room) (rows .each (e .first + (p - 1)) (omega arith) (omega (arith, leb-true p (e .count) h)))
 
 -- what tokens print end to end, and their rows, the first token's text at a place
 unfoldable pub spell : List ℕ → List ℕ → List Token → List ℕ
@@ -125,15 +119,11 @@ pub record Spelled (s : Source) (e : Earlier) (used p : ℕ) (d x : Draft) : Typ
   pub some : 1 ≤ length (x .text)
   pub limit : length (x .text) ≤ 254
 
-append-nil : (l : List ℕ) → l ++ [] ≡ l
-append-nil [] = refl
-append-nil (a ∷ l) = ap (λ z. a ∷ z) (append-nil l)
-
 print-limit : (bytes : List ℕ) (n : ℕ) → printable bytes n ≡ true → n + length bytes ≤ 254
 unfolding printable
 print-limit bytes n e = leb-true _ _ (both-true (allAllowed bytes) (leb (n + length bytes) 254) e .1)
 
-module _ (s : Source) (e : Earlier) (used : ℕ) (opened : Open (s .bytes) (s .dir) (s .cur)) (leans : Leans e used) where
+module _ (s : Source) (e : Earlier) (used : ℕ) (opened : Open (s .bytes) (s .dir) (s .cur)) (rows : Rows used e) where
   pub spelled : (p : ℕ) (d x : Draft) → Trace s e used p d x → 1 ≤ p → length (d .text) ≤ 254 → Spelled s e used p d x
   unfolding grown ended spell rowsFrom
   spelled p d x (last q z l h y n) a k = record {
@@ -147,7 +137,7 @@ module _ (s : Source) (e : Earlier) (used : ℕ) (opened : Open (s .bytes) (s .d
     limit = k;
   }
   spelled p d x (then q z w y t c l h r v f rest) a k =
-      let fit : Fit (s .bytes) (e .text) t = value-fit s e used opened leans p a (omega arith) y t c v in
+      let fit : Fit (s .bytes) (e .text) t = value-fit s e used opened rows p a (omega arith) y t c v in
       let g : Draft = grown s e used p t (c .0) d in
       let b : List ℕ = bytesOf (s .bytes) (e .text) t in
       let long : length (d .text) + length b ≤ 254 = print-limit b (length (d .text)) f in

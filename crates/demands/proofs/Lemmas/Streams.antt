@@ -1,6 +1,7 @@
 -- What a span gives next, where it has so many bytes left.
 use Prim.Native.Nat.{ℕ, _+_, _≤_}
 use borrow.Author.Tests.{leb-true}
+use Rattle.base.proofs.Choice.{pick-holds}
 use Rattle.spans.specs.declared.NextByte.{NextByte}
 use Rattle.spans.specs.declared.NextByte.the-variants as byte
 use Rattle.spans.specs.declared.NextFour.{NextFour}
@@ -8,7 +9,6 @@ use Rattle.spans.specs.declared.NextFour.the-variants as four
 use Rattle.spans.specs.Spans.{byteAt, fourAt}
 use Rattle.block.specs.Block.{spanOf, endOf, cursorOf}
 use Rattle.steps.specs.Source.{Source, byteIn, fourIn}
-use Rattle.steps.proofs.Picks.{pick-holds}
 
 -- a span has so many bytes left
 abbrev pub Has : Source → ℕ → ℕ → ℕ → Type 0

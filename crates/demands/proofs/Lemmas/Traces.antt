@@ -8,7 +8,7 @@ use borrow.Author.Tests.{ltb-true, eqb-false, eq-eqb}
 use lib.Dec.{ltb, eqb}
 use lib.ListN.{length}
 use Rattle.base.specs.Choice.{both}
-use Rattle.base.proofs.Choice.{both-of, never}
+use Rattle.base.proofs.Choice.{both-of, never, pick-holds}
 use Rattle.digits.specs.Digits.{fitsWidth}
 use Rattle.spans.specs.declared.Cursor.{Cursor}
 use Rattle.spans.specs.declared.NextText.{NextText}
@@ -26,7 +26,6 @@ use Rattle.steps.specs.declared.Step.the-variants as step
 use Rattle.steps.specs.Source.{Source, Earlier, byteIn, fourIn, textIn}
 use Rattle.steps.specs.Steps.{stringStep, charStep, digitsStep, paddedStep, widthStep, digits0Step, deltaStep, delta0Step, tokenOf, hasRow, rowHere, hasKind, deltaAt, delta0At, matchAt, valueStep, carries, barred, typedStep, stepAt}
 use Rattle.names.specs.Names.{Draft, draft, Named, named, refused, typeIn, grown, ended, printable, onward, nameFrom, nameOf}
-use Rattle.steps.proofs.Picks.{pick-holds}
 use Rattle.demands.specs.Refusals.{ByRule}
 use Rattle.demands.proofs.Lemmas.Streams.{Has, byte-way, four-way}
 

@@ -9,7 +9,7 @@ use lib.Dec.{leb, eqb}
 use lib.ListN.{length}
 use Rattle.base.specs.Choice.{pick, both}
 use Rattle.base.specs.Memory.{part}
-use Rattle.base.proofs.Choice.{both-true, pick-true}
+use Rattle.base.proofs.Choice.{both-true, pick-true, pick-holds}
 use Rattle.block.specs.declared.Refusal.{Refusal}
 use Rattle.block.specs.Block.{sound, allInside, allAtEnd, starts, state}
 use Rattle.block.proofs.Laws.{judged-open, sound-open, open-sound, open-inside}
@@ -23,7 +23,6 @@ use Rattle.reading.specs.declared.Head.{Head}
 use Rattle.reading.specs.declared.Head.the-variants as head
 use Rattle.reading.specs.declared.Answer.the-variants as answer
 use Rattle.reading.specs.Reads.{Outcome, outcome, plain, atName, dupHead, diffHead, typedHead, headOf, roomFor, kept, keepOf, headPast, dupOf, namedOf, diffOf, rowsOf, none, entryBack, headedOf, nextOf, readOf}
-use Rattle.steps.proofs.Picks.{pick-holds}
 use Rattle.demands.specs.Refusals.{Back, ByRule, Ready, by-rule, by-memory, Why, unsound, uncounted, outside, unread, unnamed}
 use Rattle.demands.proofs.Lemmas.Streams.{Has, byte-way, four-way}
 use Rattle.demands.proofs.Lemmas.Traces.{name-refuses}

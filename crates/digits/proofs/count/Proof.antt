@@ -1,39 +1,39 @@
 use borrow.Author.Needs.{needs}
 use native.Mathlib.Omega.{arith}
-use Prim.Native.Nat.{ℕ, _+_, _<_, _^_}
-use mathlib.Core.Path.{_≡_, refl}
-use Rattle.digits.specs.Digits.{digitCount}
-use Rattle.digits.proofs.Laws.{count-one, count-more, count-positive, count-ten}
+use mathlib.Core.Path.{sym}
+use Rattle.digits.proofs.Laws.{count-one, count-is}
 use Rattle.digits.proofs.count.Statement.{statement}
 use Rattle.digits.proofs.count.Tie as tie
 
--- what is left has the digits that are not counted yet, and the first of them is
-record Counted (n m k : ℕ) : Type 0 where
-  small : m < 2 ^ 32
-  digits : k + digitCount m ≡ 1 + digitCount n
+returns : tie.Need-returns
+returns c = sym (count-one (c .before .args .n) (search needs))
 
-abbrev Inv-loop : tie.InvT-loop
-Inv-loop n m₀ k₀ m k = Counted n m k
+returns-2 : tie.Need-returns-2
+returns-2 c = count-is _ 1 (search needs) (search needs) (search needs)
 
-abbrev μ-loop : tie.MeasureT-loop
-μ-loop n m₀ k₀ m k = m
+returns-3 : tie.Need-returns-3
+returns-3 c = count-is _ 2 (search needs) (search needs) (search needs)
 
-loop-holds : tie.Need-loop-holds Inv-loop μ-loop
-loop-holds c = record { small = search needs; digits = refl }
+returns-4 : tie.Need-returns-4
+returns-4 c = count-is _ 3 (search needs) (search needs) (search needs)
 
-add-k : tie.Need-add-k Inv-loop μ-loop
-add-k c = omega (arith, count-ten (c .before .before .args .n) (search needs), count-positive (c .before .loop .m))
+returns-5 : tie.Need-returns-5
+returns-5 c = count-is _ 4 (search needs) (search needs) (search needs)
 
-loop-less : tie.Need-loop-less Inv-loop μ-loop
-loop-less c = search needs
+returns-6 : tie.Need-returns-6
+returns-6 c = count-is _ 5 (search needs) (search needs) (search needs)
 
-loop-again : tie.Need-loop-again Inv-loop μ-loop
-loop-again c =
-    let l = c .before .loop in
-    record { small = search needs; digits = omega (arith, count-more (l .m) (c .loop-test .taken) (l .inv .small)) }
+returns-7 : tie.Need-returns-7
+returns-7 c = count-is _ 6 (search needs) (search needs) (search needs)
 
-returns : tie.Need-returns Inv-loop μ-loop
-returns c = omega (arith, count-one (c .before .loop .m) (c .loop-test .left))
+returns-8 : tie.Need-returns-8
+returns-8 c = count-is _ 7 (search needs) (search needs) (search needs)
+
+returns-9 : tie.Need-returns-9
+returns-9 c = count-is _ 8 (search needs) (search needs) (search needs)
+
+returns-10 : tie.Need-returns-10
+returns-10 c = count-is _ 9 (search needs) (search needs) (search needs)
 
 pub count-spec : {M : Type 1} → statement M
-count-spec = tie.close (tie.spec Inv-loop μ-loop loop-holds add-k loop-less loop-again returns)
+count-spec = tie.close (tie.spec returns returns-2 returns-3 returns-4 returns-5 returns-6 returns-7 returns-8 returns-9 returns-10)

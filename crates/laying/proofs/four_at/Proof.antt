@@ -1,8 +1,8 @@
 use native.Mathlib.Omega.{arith}
 use lib.ListN.{length-set}
 use borrow.Author.Needs.{needs}
+use Rattle.base.proofs.Memory.{four-written}
 use Rattle.spans.specs.Spans.{fourBytes}
-use Rattle.laying.proofs.Writes.{four-written}
 use Rattle.laying.proofs.four_at.Statement.{statement}
 use Rattle.laying.proofs.four_at.Tie as tie
 

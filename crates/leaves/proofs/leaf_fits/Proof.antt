@@ -1,4 +1,4 @@
-use mathlib.Core.Path.{_≡_, refl, sym, ap, _∙_}
+use mathlib.Core.Path.{refl, sym, _∙_}
 use Rattle.base.proofs.Choice.{took, left}
 use borrow.Author.Needs.{needs}
 use Rattle.leaves.proofs.leaf_fits.Statement.{statement}

@@ -1,25 +1,30 @@
-use borrow.Author.Tests.{not-true, not-false}
-use mathlib.Core.Path.{_≡_, refl, sym, ap, _∙_}
+use mathlib.Core.Path.{refl, sym, _∙_}
 use Rattle.base.proofs.Choice.{took, left}
-use Rattle.block.proofs.Laws.{sound-directory, sound-table}
+use Rattle.block.proofs.Laws.{verdict-unsound, verdict-outside, verdict-inside}
 use borrow.Author.Needs.{needs}
 use Rattle.leaves.proofs.leaf_judge.Statement.{statement}
 use Rattle.leaves.proofs.leaf_judge.Tie as tie
 
-sound-requires : tie.Need-sound-requires
-sound-requires c κs = search needs
+judge-requires : tie.Need-judge-requires
+judge-requires c κs = search needs
+
+enum-told : tie.Need-enum-told
+enum-told c = search needs
+
+enum-told-2 : tie.Need-enum-told-2
+enum-told-2 c = search needs
+
+enum-told-3 : tie.Need-enum-told-3
+enum-told-3 c = search needs
 
 returns : tie.Need-returns
-returns c = left _ _ (sym (c .before .sound .ensures) ∙ not-true (c .before .sound .result) (c .if1 .taken)) refl
-
-inside-requires : tie.Need-inside-requires
-inside-requires c κs = let t = sym (c .before .sound .ensures) ∙ not-false (c .before .sound .result) (c .if1 .left) in (sound-directory _ _ _ t, sound-table _ _ _ t)
+returns c = left _ _ (verdict-unsound _ _ _ (sym (c .before .before .judge .ensures) ∙ c .enum-told .given .1)) refl
 
 returns-2 : tie.Need-returns-2
-returns-2 c = let e = c .before .before in took _ _ (sym (e .before .sound .ensures) ∙ not-false (e .before .sound .result) (e .if1 .left)) (took _ _ (sym (c .before .inside .ensures) ∙ c .if2 .taken) refl)
+returns-2 c = let w = verdict-outside _ _ _ (sym (c .before .before .judge .ensures) ∙ c .enum-told2 .given .1) in took _ _ (w .0) (left _ _ (w .1) refl)
 
 returns-3 : tie.Need-returns-3
-returns-3 c = let e = c .before .before in took _ _ (sym (e .before .sound .ensures) ∙ not-false (e .before .sound .result) (e .if1 .left)) (left _ _ (sym (c .before .inside .ensures) ∙ c .if2 .left) refl)
+returns-3 c = let w = verdict-inside _ _ _ (sym (c .before .before .judge .ensures) ∙ c .enum-told3 .given .1) in took _ _ (w .0) (took _ _ (w .1) refl)
 
 pub leaf-judge-spec : {M : Type 1} → statement M
-leaf-judge-spec = tie.close (tie.spec sound-requires returns inside-requires returns-2 returns-3)
+leaf-judge-spec = tie.close (tie.spec judge-requires enum-told enum-told-2 enum-told-3 returns returns-2 returns-3)

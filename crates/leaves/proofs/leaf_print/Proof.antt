@@ -4,9 +4,9 @@ use lib.ListN.{length}
 use native.Mathlib.Omega.{arith}
 use borrow.Author.Tests.{leb-true}
 use Rattle.digits.proofs.Laws.{length-printed}
-use Rattle.leaves.proofs.Laws.{stands, no-room, may-not}
-use mathlib.Core.Path.{_≡_, refl, sym, ap, _∙_}
-use Rattle.base.proofs.Choice.{took, left}
+use Rattle.leaves.proofs.Laws.{stands, no-room}
+use mathlib.Core.Path.{refl, sym, _∙_}
+use Rattle.base.proofs.Choice.{left}
 use borrow.Author.Needs.{needs}
 use Rattle.leaves.proofs.leaf_print.Statement.{statement}
 use Rattle.leaves.proofs.leaf_print.Tie as tie

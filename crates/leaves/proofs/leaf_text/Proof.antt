@@ -1,4 +1,4 @@
-use mathlib.Core.Path.{_≡_, refl, sym, ap, _∙_}
+use mathlib.Core.Path.{refl, sym, ap, _∙_}
 use Rattle.base.proofs.Choice.{took, left}
 use borrow.Author.Tests.{le-leb, lt-leb}
 use Rattle.leaves.specs.Leaves.{textNumber}

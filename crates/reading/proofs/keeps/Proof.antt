@@ -1,5 +1,4 @@
 use Rattle.reading.specs.Blocks.{isKept}
-use mathlib.Core.Path.{_≡_, sym, ap}
 use borrow.Author.Needs.{needs}
 use Rattle.reading.proofs.keeps.Statement.{statement}
 use Rattle.reading.proofs.keeps.Tie as tie
@@ -15,15 +14,15 @@ enum-told-3 c = search needs
 
 returns : tie.Need-returns
 unfolding isKept
-returns c = sym (ap isKept (c .enum-told .given .1))
+returns c = rw (c .enum-told .given .1)
 
 returns-2 : tie.Need-returns-2
 unfolding isKept
-returns-2 c = sym (ap isKept (c .enum-told2 .given .1))
+returns-2 c = rw (c .enum-told2 .given .1)
 
 returns-3 : tie.Need-returns-3
 unfolding isKept
-returns-3 c = sym (ap isKept (c .enum-told3 .given .1))
+returns-3 c = rw (c .enum-told3 .given .1)
 
 pub keeps-spec : {M : Type 1} → statement M
 keeps-spec = tie.close (tie.spec enum-told enum-told-2 enum-told-3 returns returns-2 returns-3)

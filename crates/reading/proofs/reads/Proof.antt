@@ -1,4 +1,7 @@
 use Rattle.reading.proofs.Loops.{Reads, reads-less, reads-on, reads-out}
+use Rattle.base.specs.Choice.{pick}
+use Rattle.steps.specs.Source.{source}
+use Rattle.reading.specs.Reads.{nextOf}
 use Rattle.reading.specs.Blocks.{fresh, readsFrom}
 use Rattle.kept.specs.Tables.{keeping}
 use lib.ListN.{length}
@@ -9,50 +12,52 @@ use Rattle.reading.proofs.reads.Statement.{statement}
 use Rattle.reading.proofs.reads.Tie as tie
 
 abbrev Inv-loop : tie.InvT-loop
-Inv-loop table bytes dir cursors₀ text₀ entries₀ rows₀ so-far₀ cursors text entries rows so-far =
-    Reads bytes dir (readsFrom bytes dir (so-far₀ .count - so-far₀ .names + 1) (fresh cursors₀ (keeping so-far₀ text₀ entries₀ rows₀))) cursors (keeping so-far text entries rows)
+Inv-loop whole bytes dir cursors₀ text₀ entries₀ rows₀ so-far₀ cursors text entries rows so-far =
+    Reads bytes dir whole
+    (pick whole (readsFrom bytes dir (so-far₀ .count - so-far₀ .names + 1) (fresh cursors₀ (keeping so-far₀ text₀ entries₀ rows₀))) (nextOf (source bytes dir cursors₀) (keeping so-far₀ text₀ entries₀ rows₀)))
+    cursors (keeping so-far text entries rows)
     × ((length text ≡ length text₀) × ((length entries ≡ length entries₀) × (length rows ≡ length rows₀)))
 
 abbrev μ-loop : tie.MeasureT-loop
-μ-loop table bytes dir cursors₀ text₀ entries₀ rows₀ so-far₀ cursors text entries rows so-far = so-far .count - so-far .names
+μ-loop whole bytes dir cursors₀ text₀ entries₀ rows₀ so-far₀ cursors text entries rows so-far = so-far .count - so-far .names
 
 loop-holds : tie.Need-loop-holds Inv-loop μ-loop
-loop-holds c = let a = c .before .before .before .before .before .before in (record { opened = a .pre .1 .0; counted = a .pre .1 .1 .0; fits = a .pre .1 .1 .1; goes = refl }, (refl, (refl, refl)))
+loop-holds c = let a = c .before .before .before .before .before .before in (record { opened = a .pre .0; counted = a .pre .1 .0; known = a .pre .1 .1; goes = refl }, (refl, (refl, refl)))
 
 next-requires : tie.Need-next-requires Inv-loop μ-loop
-next-requires c κs = let h = c .before .before .before .before in (h .before .before .before .before .before .before .before .pre .0, (h .loop .inv .0 .opened, (h .loop .inv .0 .counted, λ q. h .loop .inv .0 .fits)))
+next-requires c κs = let h = c .before .before .before .before in (h .loop .inv .0 .opened, (h .loop .inv .0 .counted, h .loop .inv .0 .known))
 
-keeps-requires : tie.Need-keeps-requires Inv-loop μ-loop
-keeps-requires c κs = search needs
+goes-on-requires : tie.Need-goes-on-requires Inv-loop μ-loop
+goes-on-requires c κs = search needs
 
 loop-less : tie.Need-loop-less Inv-loop μ-loop
 loop-less c =
     let h = c .before .before .before .before .before .before .before .before .before .before .before .before .before .before .before .before in
-    reads-less _ _ _ _ _ _ _ _ (h .loop .inv .0) _ (c .before .before .before .before .before .before .before .before .before .before .before .next .ensures) (sym (c .before .before .keeps .ensures) ∙ c .before .if1 .taken)
+    reads-less _ _ _ _ _ _ _ _ _ (h .loop .inv .0) _ (c .before .before .before .before .before .before .before .before .before .before .before .next .ensures) (sym (c .before .before .goes-on .ensures) ∙ c .before .if1 .taken)
 
 loop-again : tie.Need-loop-again Inv-loop μ-loop
 loop-again c =
     let h = c .before .before .before .before .before .before .before .before .before .before .before .before .before .before .before .before in (
-      reads-on _ _ _ _ _ _ _ _ (h .loop .inv .0) _ (c .before .before .before .before .before .before .before .before .before .before .before .next .ensures) (sym (c .before .before .keeps .ensures) ∙ c .before .if1 .taken),
-      (c .before .before .before .before .before .before .before .before .before .before .before .next .kept .1 .1 .1 .1 .1 .0 ∙ h .loop .inv .1 .0, (c .before .before .before .before .before .before .before .before .before .before .before .next .kept .1 .1 .1 .1 .1 .1 .0 ∙ h .loop .inv .1 .1 .0, c .before .before .before .before .before .before .before .before .before .before .before .next .kept .1 .1 .1 .1 .1 .1 .1 .0 ∙ h .loop .inv .1 .1 .1)),
+      reads-on _ _ _ _ _ _ _ _ _ (h .loop .inv .0) _ (c .before .before .before .before .before .before .before .before .before .before .before .next .ensures) (sym (c .before .before .goes-on .ensures) ∙ c .before .if1 .taken),
+      (c .before .before .before .before .before .before .before .before .before .before .before .next .kept .1 .1 .1 .1 .0 ∙ h .loop .inv .1 .0, (c .before .before .before .before .before .before .before .before .before .before .before .next .kept .1 .1 .1 .1 .1 .0 ∙ h .loop .inv .1 .1 .0, c .before .before .before .before .before .before .before .before .before .before .before .next .kept .1 .1 .1 .1 .1 .1 .0 ∙ h .loop .inv .1 .1 .1)),
     )
 
 same-length : tie.Need-same-length Inv-loop μ-loop
-same-length c = let h = c .before .before .before .before .before .before .before .before .before .before .before .before .before .before .before in c .before .before .before .before .before .before .before .before .before .before .next .kept .1 .1 .1 .1 .0 ∙ h .loop .inv .0 .opened .table ∙ sym (h .before .before .before .before .before .before .before .pre .1 .0 .table)
+same-length c = let h = c .before .before .before .before .before .before .before .before .before .before .before .before .before .before .before in c .before .before .before .before .before .before .before .before .before .before .next .kept .1 .1 .1 .0 ∙ h .loop .inv .0 .opened .table ∙ sym (h .before .before .before .before .before .before .before .pre .0 .table)
 
 same-length-2 : tie.Need-same-length-2 Inv-loop μ-loop
-same-length-2 c = let h = c .before .before .before .before .before .before .before .before .before .before .before .before .before .before .before in c .before .before .before .before .before .before .before .before .before .before .next .kept .1 .1 .1 .1 .1 .0 ∙ h .loop .inv .1 .0
+same-length-2 c = let h = c .before .before .before .before .before .before .before .before .before .before .before .before .before .before .before in c .before .before .before .before .before .before .before .before .before .before .next .kept .1 .1 .1 .1 .0 ∙ h .loop .inv .1 .0
 
 same-length-3 : tie.Need-same-length-3 Inv-loop μ-loop
-same-length-3 c = let h = c .before .before .before .before .before .before .before .before .before .before .before .before .before .before .before in c .before .before .before .before .before .before .before .before .before .before .next .kept .1 .1 .1 .1 .1 .1 .0 ∙ h .loop .inv .1 .1 .0
+same-length-3 c = let h = c .before .before .before .before .before .before .before .before .before .before .before .before .before .before .before in c .before .before .before .before .before .before .before .before .before .before .next .kept .1 .1 .1 .1 .1 .0 ∙ h .loop .inv .1 .1 .0
 
 same-length-4 : tie.Need-same-length-4 Inv-loop μ-loop
-same-length-4 c = let h = c .before .before .before .before .before .before .before .before .before .before .before .before .before .before .before in c .before .before .before .before .before .before .before .before .before .before .next .kept .1 .1 .1 .1 .1 .1 .1 .0 ∙ h .loop .inv .1 .1 .1
+same-length-4 c = let h = c .before .before .before .before .before .before .before .before .before .before .before .before .before .before .before in c .before .before .before .before .before .before .before .before .before .before .next .kept .1 .1 .1 .1 .1 .1 .0 ∙ h .loop .inv .1 .1 .1
 
 returns : tie.Need-returns Inv-loop μ-loop
 returns c =
     let h = c .before .before .before .before .before .before .before .before .before .before .before .before .before .before .before in
-    reads-out _ _ _ _ _ _ _ _ (h .loop .inv .0) _ (c .before .before .before .before .before .before .before .before .before .before .next .ensures) (sym (c .before .keeps .ensures) ∙ c .if1 .left)
+    reads-out _ _ _ _ _ _ _ _ _ (h .loop .inv .0) _ (c .before .before .before .before .before .before .before .before .before .before .next .ensures) (sym (c .before .goes-on .ensures) ∙ c .if1 .left)
 
 pub reads-spec : {M : Type 1} → statement M
 reads-spec =
@@ -62,7 +67,7 @@ reads-spec =
     μ-loop
     loop-holds
     next-requires
-    keeps-requires
+    goes-on-requires
     loop-less
     loop-again
     same-length

@@ -23,7 +23,7 @@ lean-requires : tie.Need-lean-requires
 lean-requires c κs =
     let s = c .before .before .before .before .before in
     let a = s .args in (
-      rw (c .before .before .piece-at .ensures) (piece-within (now (a .name)) (a .p) (a .a) (s .pre .1)),
+      rw (c .before .before .piece-at .ensures) (piece-within (now (a .name)) (a .p) (a .a) (s .pre .1 .0)),
       rw (c .piece-at2 .ensures) (piece-within (now (a .before)) (a .p) (a .b) (c .before .if1 .left)),
     )
 

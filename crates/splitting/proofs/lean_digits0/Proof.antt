@@ -1,4 +1,5 @@
-use mathlib.Core.Path.{refl, ap, _∙_}
+use mathlib.Core.Path.{_≡_, refl, ap, _∙_}
+use native.Mathlib.Omega.{arith}
 use borrow.Author.Tests.{eq-eqb, ne-eqb}
 use borrow.Author.Needs.{needs}
 use Rattle.base.proofs.Choice.{took, left}
@@ -29,7 +30,8 @@ unfolding leanDigits0
 returns c =
     let w = c .before .before .before .before .before .before in
     let x = w .before .before .args .x in
-    rw (w .u .given .1) (took _ _ (eq-eqb _ _ (c .before .before .if1 .taken)) (c .by-rise0 .ensures ∙ ap (byRise0 x) (c .before .rise-of .ensures)))
+    let e : x .width ≡ w .u .given .0 .0 .width = omega arith in
+    rw (w .u .given .1) (took _ _ (eq-eqb _ _ e) (c .by-rise0 .ensures ∙ ap (byRise0 x) (c .before .rise-of .ensures)))
 
 returns-2 : tie.Need-returns-2
 unfolding leanDigits0

@@ -1,23 +1,28 @@
 use mathlib.Core.Path.{sym, ap, _∙_}
-use native.Mathlib.Omega.{arith}
 use denote.Ref.{now}
 use borrow.Author.Tests.{eq-eqb, ne-eqb}
 use borrow.Author.Needs.{needs}
 use Rattle.base.proofs.Choice.{took, left}
 use Rattle.splitting.specs.Split.{pieceAt, textPiece, numberPiece}
-use Rattle.splitting.proofs.Runs.{run-range, run-number}
+use Rattle.splitting.proofs.Runs.{run-number, cut-last, cut-run, cut-range}
+use Rattle.splitting.proofs.Cuts.{cut-end, cut-number}
 use Rattle.splitting.proofs.piece_at.Statement.{statement}
 use Rattle.splitting.proofs.piece_at.Tie as tie
 
 text-piece-requires : tie.Need-text-piece-requires
-text-piece-requires c κs = search needs
+text-piece-requires c κs =
+    let s = c .before .before in
+    let a = s .args in
+    let e = cut-end (now (a .name)) (a .p) (a .at) (s .pre .1 .1) in
+    rw e (cut-range (now (a .name)) (a .at) (s .pre .1 .0) (a .p))
 
 returns : tie.Need-returns
 unfolding pieceAt
-returns c = took _ _ (eq-eqb _ _ (c .before .if1 .taken)) (c .text-piece .ensures)
-
-run-at-requires : tie.Need-run-at-requires
-run-at-requires c κs = search needs
+returns c =
+    let s = c .before .before .before in
+    let a = s .args in
+    let e = cut-end (now (a .name)) (a .p) (a .at) (s .pre .1 .1) ∙ cut-last (now (a .name)) (a .at) (s .pre .1 .0) (a .p) (c .before .if1 .taken) in
+    took _ _ (eq-eqb _ _ (c .before .if1 .taken)) (c .text-piece .ensures ∙ ap (textPiece (now (a .name)) (a .at)) e)
 
 shared-slice-read-run-class : tie.Need-shared-slice-read-run-class
 shared-slice-read-run-class c = search needs
@@ -27,32 +32,42 @@ run-class-requires c κs = search needs
 
 number-piece-requires : tie.Need-number-piece-requires
 number-piece-requires c κs =
-    let a = c .before .before .before .before .before .before .args in
-    let r = run-range (now (a .name)) (a .at) (omega arith) in
-    let n = run-number (now (a .name)) (a .at) (omega arith) (sym (c .before .run-class .ensures) ∙ c .if2 .taken) in
-    rw (c .before .before .before .run-at .ensures) (r .0, (r .1, (n .0, n .1)))
+    let s = c .before .before .before .before .before in
+    let a = s .args in
+    let k = sym (c .before .run-class .ensures) ∙ c .if2 .taken in
+    let r = cut-range (now (a .name)) (a .at) (s .pre .1 .0) (a .p) in
+    let e = cut-end (now (a .name)) (a .p) (a .at) (s .pre .1 .1) in
+    let u = cut-run (now (a .name)) (a .at) (s .pre .1 .0) (a .p) (c .before .before .before .if1 .left) in
+    let n = run-number (now (a .name)) (a .at) (s .pre .1 .0) k in
+    let v = cut-number (now (a .name)) (a .p) (a .at) (s .pre .1 .1) (s .pre .1 .0) (c .before .before .before .if1 .left) k in
+    rw e (r .0, (r .1, (rw u (n .0), v)))
 
 returns-2 : tie.Need-returns-2
 unfolding pieceAt
 returns-2 c =
-    let a = c .before .before .before .before .before .before .before .args in
-    left _ _ (ne-eqb _ _ (c .before .before .before .before .before .if1 .left))
+    let s = c .before .before .before .before .before .before in
+    let a = s .args in
+    let e = cut-end (now (a .name)) (a .p) (a .at) (s .pre .1 .1) ∙ cut-run (now (a .name)) (a .at) (s .pre .1 .0) (a .p) (c .before .before .before .before .if1 .left) in
+    left _ _ (ne-eqb _ _ (c .before .before .before .before .if1 .left))
     (took _ _ (eq-eqb _ _ (sym (c .before .before .run-class .ensures) ∙ c .before .if2 .taken))
-    (c .number-piece .ensures ∙ ap (numberPiece (now (a .name)) (a .at)) (c .before .before .before .before .run-at .ensures)))
+    (c .number-piece .ensures ∙ ap (numberPiece (now (a .name)) (a .at)) e))
 
 text-piece-requires-2 : tie.Need-text-piece-requires-2
 text-piece-requires-2 c κs =
-    let a = c .before .before .before .before .before .before .args in
-    let r = run-range (now (a .name)) (a .at) (omega arith) in
-    rw (c .before .before .before .run-at .ensures) (r .0, r .1)
+    let s = c .before .before .before .before .before in
+    let a = s .args in
+    let e = cut-end (now (a .name)) (a .p) (a .at) (s .pre .1 .1) in
+    rw e (cut-range (now (a .name)) (a .at) (s .pre .1 .0) (a .p))
 
 returns-3 : tie.Need-returns-3
 unfolding pieceAt
 returns-3 c =
-    let a = c .before .before .before .before .before .before .before .args in
-    left _ _ (ne-eqb _ _ (c .before .before .before .before .before .if1 .left))
+    let s = c .before .before .before .before .before .before in
+    let a = s .args in
+    let e = cut-end (now (a .name)) (a .p) (a .at) (s .pre .1 .1) ∙ cut-run (now (a .name)) (a .at) (s .pre .1 .0) (a .p) (c .before .before .before .before .if1 .left) in
+    left _ _ (ne-eqb _ _ (c .before .before .before .before .if1 .left))
     (left _ _ (ne-eqb _ _ (λ e. c .before .if2 .left (c .before .before .run-class .ensures ∙ e)))
-    (c .text-piece2 .ensures ∙ ap (textPiece (now (a .name)) (a .at)) (c .before .before .before .before .run-at .ensures)))
+    (c .text-piece2 .ensures ∙ ap (textPiece (now (a .name)) (a .at)) e))
 
 pub piece-at-spec : {M : Type 1} → statement M
 piece-at-spec =
@@ -60,7 +75,6 @@ piece-at-spec =
     (tie.spec
     text-piece-requires
     returns
-    run-at-requires
     shared-slice-read-run-class
     run-class-requires
     number-piece-requires

@@ -17,11 +17,11 @@ same-requires c κs = search needs
 
 returns-2 : tie.Need-returns-2
 unfolding referenceOf
-returns-2 c = left _ _ (sym (c .before .before .before .is-anew .ensures) ∙ c .before .before .if1 .left) (took _ _ (sym (c .before .same .ensures) ∙ c .if2 .taken) refl)
+returns-2 c = left _ _ (sym (c .before .before .before .is-anew .ensures) ∙ c .before .before .if1 .left) (took _ _ (rw (← c .before .same .ensures) (c .if2 .taken)) refl)
 
 returns-3 : tie.Need-returns-3
 unfolding referenceOf
-returns-3 c = left _ _ (sym (c .before .before .before .is-anew .ensures) ∙ c .before .before .if1 .left) (left _ _ (sym (c .before .same .ensures) ∙ c .if2 .left) refl)
+returns-3 c = left _ _ (sym (c .before .before .before .is-anew .ensures) ∙ c .before .before .if1 .left) (left _ _ (rw (← c .before .same .ensures) (c .if2 .left)) refl)
 
 pub reference-of-spec : {M : Type 1} → statement M
 reference-of-spec = tie.close (tie.spec is-anew-requires returns same-requires returns-2 returns-3)

@@ -1,6 +1,7 @@
 use Prim.Native.Nat.{_-_, _≤_}
 use mathlib.Core.Path.{_≡_, refl, sym, _∙_}
 use native.Mathlib.Omega.{arith}
+use lib.ListN.{length}
 use borrow.Author.Needs.{needs}
 use denote.Ref.{now}
 use Rattle.splitting.specs.Split.{runEnd}
@@ -9,10 +10,10 @@ use Rattle.splitting.proofs.run_end.Statement.{statement}
 use Rattle.splitting.proofs.run_end.Tie as tie
 
 abbrev Inv-loop : tie.InvT-loop
-Inv-loop table name class at to i₀ i = (at ≤ i) × ((i ≤ to) × (runEnd name class i (to - i) ≡ runEnd name class at (to - at)))
+Inv-loop table name at i₀ i = (at ≤ i) × ((i ≤ length name) × (runEnd name 0 i (length name - i) ≡ runEnd name 0 at (length name - at)))
 
 abbrev μ-loop : tie.MeasureT-loop
-μ-loop table name class at to i₀ i = to - i
+μ-loop table name at i₀ i = length name - i
 
 loop-holds : tie.Need-loop-holds Inv-loop μ-loop
 loop-holds c = (search needs, (search needs, refl))
@@ -27,7 +28,7 @@ returns : tie.Need-returns Inv-loop μ-loop
 returns c =
     let l = c .before .before .before .before .loop in
     let a = c .before .before .before .before .before .before .args in
-    sym (run-here (now (a .name)) (a .class) (l .i) (a .to) (omega arith) (λ e. c .if1 .taken (c .before .run-class .ensures ∙ e))) ∙ l .inv .1 .1
+    sym (run-here (now (a .name)) 0 (l .i) (length (now (a .name))) (omega arith) (λ e. c .if1 .taken (c .before .run-class .ensures ∙ e))) ∙ l .inv .1 .1
 
 add-i : tie.Need-add-i Inv-loop μ-loop
 add-i c = search needs
@@ -39,13 +40,13 @@ loop-again : tie.Need-loop-again Inv-loop μ-loop
 loop-again c =
     let l = c .before .before .before .before .loop in
     let a = c .before .before .before .before .before .before .args in
-    (search needs, (search needs, run-next (now (a .name)) (a .class) (l .i) (a .to) (omega arith) (sym (c .before .run-class .ensures) ∙ c .if1 .left) ∙ l .inv .1 .1))
+    (search needs, (search needs, run-next (now (a .name)) 0 (l .i) (length (now (a .name))) (omega arith) (sym (c .before .run-class .ensures) ∙ c .if1 .left) ∙ l .inv .1 .1))
 
 returns-2 : tie.Need-returns-2 Inv-loop μ-loop
 returns-2 c =
     let l = c .before .loop in
     let a = c .before .before .before .args in
-    sym (run-out (now (a .name)) (a .class) (l .i) (a .to) (omega arith)) ∙ l .inv .1 .1
+    sym (run-out (now (a .name)) 0 (l .i) (length (now (a .name))) (omega arith)) ∙ l .inv .1 .1
 
 pub run-end-spec : {M : Type 1} → statement M
 run-end-spec =

@@ -1,6 +1,6 @@
-use mathlib.Core.Path.{sym}
+use mathlib.Core.Path.{sym, _∙_}
 use Rattle.tokens.specs.Tokens.{bytesOf}
-use Rattle.classes.proofs.Laws.{allowed-printed, allowed-padded}
+use Rattle.classes.proofs.Laws.{allowed-one, allowed-printed, allowed-padded}
 use borrow.Author.Needs.{needs}
 use Rattle.tokens.proofs.allowed.Statement.{statement}
 use Rattle.tokens.proofs.allowed.Tie as tie
@@ -11,13 +11,13 @@ enum-known-t c = search needs
 text-allowed-requires : tie.Need-text-allowed-requires
 text-allowed-requires c κs =
     let s = c .before .before .before .before .before in
-    (s .pre .0, rw (c .before .t .given .1) at (s .pre .1))
+    rw (c .before .t .given .1) at (s .pre)
 
 enum-known-t-2 : tie.Need-enum-known-t-2
 enum-known-t-2 c = search needs
 
-byte-allowed-requires : tie.Need-byte-allowed-requires
-byte-allowed-requires c κs = search needs
+is-allowed-requires : tie.Need-is-allowed-requires
+is-allowed-requires c κs = search needs
 
 enum-told : tie.Need-enum-told
 enum-told c = search needs
@@ -31,7 +31,7 @@ returns c = rw (c .before .before .t .given .1) (c .text-allowed .ensures)
 
 returns-2 : tie.Need-returns-2
 unfolding bytesOf
-returns-2 c = rw (c .before .before .t2 .given .1) (c .byte-allowed .ensures)
+returns-2 c = rw (c .before .before .t2 .given .1) (c .is-allowed .ensures ∙ sym (allowed-one _))
 
 returns-3 : tie.Need-returns-3
 unfolding bytesOf
@@ -48,7 +48,7 @@ allowed-spec =
     enum-known-t
     text-allowed-requires
     enum-known-t-2
-    byte-allowed-requires
+    is-allowed-requires
     enum-told
     enum-told-2
     returns

@@ -1,3 +1,5 @@
+use native.Mathlib.Omega.{arith}
+use Rattle.digits.proofs.Laws.{printed-short}
 use Rattle.tokens.specs.Tokens.{bytesOf, lengthOf}
 use borrow.Author.Needs.{needs}
 use Rattle.tokens.proofs.put.Statement.{statement}
@@ -13,6 +15,9 @@ put-text-requires c κs =
     let e = c .before .before .t .given .1 in
     (rw e at (s .pre .0), (rw e at (s .pre .1 .0), rw e at (s .pre .1 .1)))
 
+text-length-requires : tie.Need-text-length-requires
+text-length-requires c κs = search needs
+
 enum-known-t-2 : tie.Need-enum-known-t-2
 enum-known-t-2 c = search needs
 
@@ -27,6 +32,9 @@ print-requires : tie.Need-print-requires
 unfolding lengthOf
 print-requires c κs = rw (c .before .before .t3 .given .1) at (c .before .before .before .before .before .before .pre .1 .1)
 
+cast-result : tie.Need-cast-result
+cast-result c = omega (arith, c .before .before .print .ensures .0, printed-short (c .before .before .before .before .before .t3 .given .0 .0))
+
 enum-known-t-4 : tie.Need-enum-known-t-4
 enum-known-t-4 c = search needs
 
@@ -38,29 +46,37 @@ same-length : tie.Need-same-length
 same-length c = search needs
 
 returns : tie.Need-returns
-unfolding bytesOf
-returns c = rw (c .before .before .before .before .before .t .given .1) (c .before .before .put-text .ensures)
+unfolding bytesOf lengthOf
+returns c =
+    let e = c .before .before .before .before .before .before .t .given .1 in
+    (rw e (c .text-length .ensures), rw e (c .before .before .before .put-text .ensures))
 
 same-length-2 : tie.Need-same-length-2
 same-length-2 c = search needs
 
 returns-2 : tie.Need-returns-2
-unfolding bytesOf
-returns-2 c = rw (c .before .before .before .before .before .t2 .given .1) (c .before .before .put-byte .ensures)
+unfolding bytesOf lengthOf
+returns-2 c =
+    let e = c .before .before .before .before .before .t2 .given .1 in
+    (rw e, rw e (c .before .before .put-byte .ensures))
 
 same-length-3 : tie.Need-same-length-3
 same-length-3 c = search needs
 
 returns-3 : tie.Need-returns-3
-unfolding bytesOf
-returns-3 c = rw (c .before .before .before .before .before .t3 .given .1) (c .before .before .print .ensures .1)
+unfolding bytesOf lengthOf
+returns-3 c =
+    let e = c .before .before .before .before .before .t3 .given .1 in
+    (rw e (c .before .before .print .ensures .0), rw e (c .before .before .print .ensures .1))
 
 same-length-4 : tie.Need-same-length-4
 same-length-4 c = search needs
 
 returns-4 : tie.Need-returns-4
-unfolding bytesOf
-returns-4 c = rw (c .before .before .before .before .before .t4 .given .1) (c .before .before .print-padded .ensures)
+unfolding bytesOf lengthOf
+returns-4 c =
+    let e = c .before .before .before .before .before .t4 .given .1 in
+    (rw e, rw e (c .before .before .print-padded .ensures))
 
 pub put-spec : {M : Type 1} → statement M
 put-spec =
@@ -68,10 +84,12 @@ put-spec =
     (tie.spec
     enum-known-t
     put-text-requires
+    text-length-requires
     enum-known-t-2
     put-byte-requires
     enum-known-t-3
     print-requires
+    cast-result
     enum-known-t-4
     print-padded-requires
     same-length

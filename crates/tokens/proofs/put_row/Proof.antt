@@ -15,9 +15,6 @@ number-requires c κs = search needs
 width-requires : tie.Need-width-requires
 width-requires c κs = search needs
 
-length-requires : tie.Need-length-requires
-length-requires c κs = search needs
-
 put-five-requires : tie.Need-put-five-requires
 put-five-requires c κs = search needs
 
@@ -28,7 +25,7 @@ returns : tie.Need-returns
 unfolding rowOf
 returns c =
     let l = c .before .before .before in
-    rw (← l .before .before .before .kind .ensures, ← l .before .before .number .ensures, ← l .before .width .ensures, ← l .length .ensures) (c .before .before .put-five .ensures)
+    rw (← l .before .before .kind .ensures, ← l .before .number .ensures, ← l .width .ensures, ← l .before .before .before .before .before .pre .0) (c .before .before .put-five .ensures)
 
 pub put-row-spec : {M : Type 1} → statement M
 put-row-spec =
@@ -38,7 +35,6 @@ put-row-spec =
     kind-requires
     number-requires
     width-requires
-    length-requires
     put-five-requires
     same-length
     returns)

@@ -1,6 +1,6 @@
 use Rattle.kept.specs.Judgement.{counts}
 use Rattle.kept.specs.Tables.{room}
-use Rattle.kept.proofs.Tests.{and-both}
+use Rattle.base.proofs.Choice.{and-both}
 use borrow.Author.Needs.{needs}
 use Rattle.kept.proofs.judgement.counts.Statement.{statement}
 use Rattle.kept.proofs.judgement.counts.Tie as tie

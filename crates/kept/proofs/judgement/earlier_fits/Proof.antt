@@ -1,6 +1,6 @@
 use native.Mathlib.Omega.{arith}
 use mathlib.Core.Path.{sym, _∙_}
-use Rattle.kept.proofs.Tests.{and-true}
+use Rattle.base.proofs.Choice.{and-true}
 use Rattle.kept.proofs.Laws.{rows-inside}
 use Rattle.kept.proofs.Steps.{earlier-taken, earlier-left}
 use borrow.Author.Needs.{needs}

@@ -1,5 +1,5 @@
 use Rattle.kept.specs.Judgement.{entryText}
-use Rattle.kept.proofs.Tests.{and-both, both-both}
+use Rattle.base.proofs.Choice.{and-both, both-both}
 use borrow.Author.Needs.{needs}
 use Rattle.kept.proofs.judgement.entry_text.Statement.{statement}
 use Rattle.kept.proofs.judgement.entry_text.Tie as tie

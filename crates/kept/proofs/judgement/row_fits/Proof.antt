@@ -1,5 +1,5 @@
 use Rattle.kept.specs.Judgement.{rowFits}
-use Rattle.kept.proofs.Tests.{and-both}
+use Rattle.base.proofs.Choice.{and-both}
 use borrow.Author.Needs.{needs}
 use Rattle.kept.proofs.judgement.row_fits.Statement.{statement}
 use Rattle.kept.proofs.judgement.row_fits.Tie as tie

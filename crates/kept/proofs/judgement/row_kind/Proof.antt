@@ -1,5 +1,5 @@
 use mathlib.Core.Path.{sym, _∙_}
-use Rattle.kept.proofs.Tests.{and-both}
+use Rattle.base.proofs.Choice.{and-both}
 use Rattle.kept.proofs.Laws.{kind-string, kind-char, kind-padded, kind-other}
 use borrow.Author.Needs.{needs}
 use Rattle.kept.proofs.judgement.row_kind.Statement.{statement}

@@ -4,7 +4,7 @@ use Prim.Native.Nat.{_≤_, _-_, _+_}
 use mathlib.Core.Path.{_≡_}
 use Rattle.base.specs.Choice.{both}
 use Rattle.kept.specs.Judgement.{rowsFit}
-use Rattle.kept.proofs.Tests.{and-both}
+use Rattle.base.proofs.Choice.{and-both}
 use Rattle.kept.proofs.Steps.{rows-start, rows-turn, rows-done}
 use Rattle.kept.proofs.judgement.rows_fit.Statement.{statement}
 use Rattle.kept.proofs.judgement.rows_fit.Tie as tie

@@ -1,5 +1,5 @@
 use Rattle.kept.specs.Judgement.{textCounts}
-use Rattle.kept.proofs.Tests.{and-both, both-both}
+use Rattle.base.proofs.Choice.{and-both, both-both}
 use borrow.Author.Needs.{needs}
 use Rattle.kept.proofs.judgement.text_counts.Statement.{statement}
 use Rattle.kept.proofs.judgement.text_counts.Tie as tie

@@ -20,7 +20,7 @@ loop-holds : tie.Need-loop-holds Inv-loop μ-loop
 loop-holds c =
     let s = c .before .before in
     let a = s .args in
-    (refl, names-start (now (a .input)) (page (now (a .out)) 0) (s .pre .1 .1))
+    (refl, names-start (now (a .input)) (page (now (a .out)) 0) (omega arith) (s .pre .1 .1))
 
 name-end-requires : tie.Need-name-end-requires Inv-loop μ-loop
 name-end-requires c κs = (c .loop-test .taken, c .before .before .before .before .pre .1 .0 .0)

@@ -1,8 +1,12 @@
 use Rattle.lines.proofs.Pages.{first-room, next-room, said-next}
-use Rattle.lines.specs.Page.{page}
+use Rattle.lines.specs.Page.{Page, page, HasRoom}
+use Prim.Native.Nat.{ℕ}
+use mathlib.Core.Path.{_≡_}
+use native.Mathlib.Omega.{arith}
 use denote.Ref.{now}
 use mathlib.Core.List.{_++_}
 use Rattle.digits.specs.Digits.{printed}
+use Rattle.tokens.specs.declared.Padded.{Padded}
 use Rattle.lines.specs.Words.{digits0Word, slash}
 use Rattle.lines.specs.Lines.{paddedText}
 use borrow.Author.Needs.{needs}
@@ -12,12 +16,17 @@ use Rattle.lines.proofs.line.put_padded.Tie as tie
 slice-aggregate-put-labelled : tie.Need-slice-aggregate-put-labelled
 slice-aggregate-put-labelled c = search needs
 
+-- room for what comes first, the number
+number-room : (x : Padded) (w : Page) {n : ℕ} → n ≡ x .number → HasRoom (paddedText x) w → HasRoom (digits0Word ++ printed n) w
+unfolding paddedText
+number-room x w e r = rw e (first-room (digits0Word ++ printed (x .number)) (slash ++ printed (x .width)) w r)
+
 put-labelled-requires : tie.Need-put-labelled-requires
-unfolding paddedText digits0Word slash
+unfolding digits0Word
 put-labelled-requires c κs =
     let s = c .before .before .before in
     let a = s .args in
-    first-room (digits0Word ++ printed (a .x .number)) (slash ++ printed (a .x .width)) (page (now (a .out)) (a .at)) (s .pre)
+    number-room (a .x) (page (now (a .out)) (a .at)) (omega arith) (s .pre)
 
 slice-aggregate-put-labelled-2 : tie.Need-slice-aggregate-put-labelled-2
 slice-aggregate-put-labelled-2 c = search needs

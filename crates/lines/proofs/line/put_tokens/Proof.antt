@@ -1,5 +1,6 @@
 use Rattle.lines.proofs.Walks.{Walking, walk-start, walk-room, walk-more, walk-last, walk-end}
 use Rattle.splitting.proofs.Runs.{cut-range}
+use Rattle.splitting.proofs.Cuts.{cut-end}
 use Rattle.splitting.proofs.Pieces.{choice-within}
 use Rattle.lines.specs.Page.{page}
 use native.Mathlib.Omega.{arith}
@@ -22,23 +23,22 @@ loop-holds c =
     let a = s .args in
     (refl, walk-start (now (a .before)) (now (a .name)) (page (now (a .out)) (a .at)) (s .pre .1))
 
+cut-at-requires : tie.Need-cut-at-requires Inv-loop μ-loop
+cut-at-requires c κs = c .before .before .before .before .before .pre .0
+
+cut-at-requires-2 : tie.Need-cut-at-requires-2 Inv-loop μ-loop
+cut-at-requires-2 c κs = c .before .before .before .before .before .before .pre .0
+
 choice-at-requires : tie.Need-choice-at-requires Inv-loop μ-loop
-choice-at-requires c κs = (c .before .before .before .before .before .pre .0, c .loop-test .taken)
+choice-at-requires c κs = (c .before .before .before .before .before .before .before .pre .0, (c .before .before .loop-test .taken, (c .before .cut-at .ensures, c .cut-at2 .ensures)))
 
 put-choice-requires : tie.Need-put-choice-requires Inv-loop μ-loop
 put-choice-requires c κs =
-    let l = c .before .before .before .loop in
-    let s = c .before .before .before .before .before .before .before in
-    let a = s .args in
+    let l = c .before .before .before .before .before .loop in
+    let a = c .before .before .before .before .before .before .before .before .before .args in
     let e = c .before .choice-at .ensures in
-    let h = c .before .before .loop-test .taken in
+    let h = c .before .before .before .before .loop-test .taken in
     (rw e (choice-within (now (a .before)) (now (a .name)) (l .p) (l .a) (l .b) h), walk-room (now (a .before)) (now (a .name)) (page (now (a .out)) (a .at)) (page (l .out) (l .next)) (l .p) (l .a) (l .b) (l .inv .1) h _ e)
-
-cut-requires : tie.Need-cut-requires Inv-loop μ-loop
-cut-requires c κs = c .before .before .before .before .before .before .before .before .before .before .pre .0
-
-cut-requires-2 : tie.Need-cut-requires-2 Inv-loop μ-loop
-cut-requires-2 c κs = c .before .before .before .before .before .before .before .before .before .before .before .pre .0
 
 add-p : tie.Need-add-p Inv-loop μ-loop
 add-p c =
@@ -52,13 +52,13 @@ loop-less c =
     let a = c .before .before .before .before .before .before .before .before .before .before .before .before .args in
     let h : l .a < length (now (a .name)) = c .before .before .before .before .before .before .before .loop-test .taken in
     let r = cut-range (now (a .name)) (l .a) h (l .p) in
-    omega (arith, c .before .cut .ensures)
+    omega (arith, cut-end (now (a .name)) (l .p) (l .a) (c .before .before .before .before .before .before .cut-at .ensures))
 
 loop-again : tie.Need-loop-again Inv-loop μ-loop
 loop-again c =
     let l = c .before .before .before .before .before .before .before .before .loop in
     let a = c .before .before .before .before .before .before .before .before .before .before .before .before .args in
-    (c .before .before .before .before .put-choice .kept .0 ∙ l .inv .0, walk-more (now (a .before)) (now (a .name)) (page (now (a .out)) (a .at)) (page (l .out) (l .next)) (l .p) (l .a) (l .b) (l .inv .1) (c .before .before .before .before .before .before .before .loop-test .taken) _ (c .before .before .before .before .before .before .choice-at .ensures) (c .before .before .before .before .put-choice .ensures) (c .before .cut .ensures) (c .cut2 .ensures))
+    (c .before .before .put-choice .kept .0 ∙ l .inv .0, walk-more (now (a .before)) (now (a .name)) (page (now (a .out)) (a .at)) (page (l .out) (l .next)) (l .p) (l .a) (l .b) (l .inv .1) (c .before .before .before .before .before .before .before .loop-test .taken) _ (c .before .before .before .before .choice-at .ensures) (c .before .before .put-choice .ensures) (cut-end (now (a .name)) (l .p) (l .a) (c .before .before .before .before .before .before .cut-at .ensures)) (cut-end (now (a .before)) (l .p) (l .b) (c .before .before .before .before .before .cut-at2 .ensures)))
 
 put-choice-requires-2 : tie.Need-put-choice-requires-2 Inv-loop μ-loop
 put-choice-requires-2 c κs =
@@ -82,10 +82,10 @@ put-tokens-spec =
     Inv-loop
     μ-loop
     loop-holds
+    cut-at-requires
+    cut-at-requires-2
     choice-at-requires
     put-choice-requires
-    cut-requires
-    cut-requires-2
     add-p
     loop-less
     loop-again

@@ -1,4 +1,4 @@
-use Rattle.lines.proofs.Pages.{part-all}
+use Rattle.base.proofs.Lists.{part-all}
 use Rattle.lines.specs.Page.{page, said, HasRoom}
 use native.Mathlib.Omega.{arith}
 use mathlib.Core.List.{List}

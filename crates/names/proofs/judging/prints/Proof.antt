@@ -16,7 +16,7 @@ sub-if1 c = search needs
 returns : tie.Need-returns
 returns c =
     let a = c .before .before .before .args in let b = bytesOf (now (a .bytes)) (now (a .text)) (a .t) in
-    let e : a .length ≡ length b = c .before .before .before .pre .0 .0 ∙ sym (length-bytes (now (a .bytes)) (now (a .text)) (a .t) (c .before .before .before .pre .1 .1)) in
+    let e : a .length ≡ length b = c .before .before .before .pre .0 .0 ∙ sym (length-bytes (now (a .bytes)) (now (a .text)) (a .t) (c .before .before .before .pre .1)) in
     long-spoils b (a .before) (a .length) e (omega arith)
 
 allowed-requires : tie.Need-allowed-requires
@@ -25,7 +25,7 @@ allowed-requires c κs = search needs
 returns-2 : tie.Need-returns-2
 returns-2 c =
     let a = c .before .before .before .before .args in let b = bytesOf (now (a .bytes)) (now (a .text)) (a .t) in
-    let e : a .length ≡ length b = c .before .before .before .before .pre .0 .0 ∙ sym (length-bytes (now (a .bytes)) (now (a .text)) (a .t) (c .before .before .before .before .pre .1 .1)) in
+    let e : a .length ≡ length b = c .before .before .before .before .pre .0 .0 ∙ sym (length-bytes (now (a .bytes)) (now (a .text)) (a .t) (c .before .before .before .before .pre .1)) in
     short-prints b (a .before) (a .length) e (omega arith) (c .allowed .ensures)
 
 pub prints-spec : {M : Type 1} → statement M

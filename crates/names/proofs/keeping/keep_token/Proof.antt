@@ -13,9 +13,6 @@ put-row-requires c κs = search needs
 advance-requires : tie.Need-advance-requires
 advance-requires c κs = search needs
 
-length-requires : tie.Need-length-requires
-length-requires c κs = search needs
-
 same-length : tie.Need-same-length
 same-length c = search needs
 
@@ -26,10 +23,11 @@ same-length-3 : tie.Need-same-length-3
 same-length-3 c = search needs
 
 returns : tie.Need-returns
-returns c = let a = c .before .before .before .before .before .before .before .before .before .before .before .before .before .before .before .before .before .args in (
-  c .length .ensures,
-  token-put (now (a .bytes)) (now (a .text)) (now (a .rows)) (now (a .cursors)) (a .t) (a .ty) (a .p .0) (a .c .0) (a .at) (a .row) (c .before .before .before .before .before .before .before .before .before .before .before .put .ensures) (c .before .before .before .before .before .before .before .put-row .ensures) (c .before .before .before .advance .ensures),
-)
+returns c =
+    let a = c .before .before .before .before .before .before .before .before .before .before .before .before .before .before .before .before .args in (
+      c .before .before .before .before .before .before .before .before .before .before .put .ensures .0,
+      token-put (now (a .bytes)) (now (a .text)) (now (a .rows)) (now (a .cursors)) (a .t) (a .ty) (a .p .0) (a .c .0) (a .at) (a .row) (c .before .before .before .before .before .before .before .before .before .before .put .ensures .1) (c .before .before .before .before .before .before .put-row .ensures) (c .before .before .advance .ensures),
+    )
 
 pub keep-token-spec : {M : Type 1} → statement M
 keep-token-spec =
@@ -38,7 +36,6 @@ keep-token-spec =
     put-requires
     put-row-requires
     advance-requires
-    length-requires
     same-length
     same-length-2
     same-length-3

@@ -5,6 +5,7 @@ use Rattle.block.specs.Block.{spanOf}
 use Rattle.names.specs.Names.{past}
 use Rattle.names.proofs.Cursors.{padded-fits}
 use borrow.Author.Needs.{needs}
+use native.Mathlib.Omega.{arith}
 use Rattle.names.proofs.moving.move_padded.Statement.{statement}
 use Rattle.names.proofs.moving.move_padded.Tie as tie
 
@@ -12,7 +13,9 @@ move-to-requires : tie.Need-move-to-requires
 move-to-requires c κs = search needs
 
 move-on-requires : tie.Need-move-on-requires
-move-on-requires c κs = ((search needs, (search needs, search needs)), padded-fits _ _ _ _ (c .before .before .before .move-to .ensures) (c .before .before .before .before .before .before .pre .1))
+move-on-requires c κs =
+    let f = padded-fits _ _ _ _ (c .before .before .before .move-to .ensures) (c .before .before .before .before .before .before .pre .1) in
+    ((search needs, (search needs, search needs)), omega arith)
 
 same-length : tie.Need-same-length
 same-length c = search needs

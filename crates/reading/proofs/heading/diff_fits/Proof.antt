@@ -1,12 +1,13 @@
-use Rattle.base.proofs.Choice.{took, left}
+use Rattle.base.specs.Choice.{pick}
+use Rattle.base.proofs.Choice.{left}
 use borrow.Author.Tests.{eq-eqb, ne-eqb}
-use mathlib.Core.Path.{refl}
 use borrow.Author.Needs.{needs}
 use Rattle.reading.proofs.heading.diff_fits.Statement.{statement}
 use Rattle.reading.proofs.heading.diff_fits.Tie as tie
 
 returns : tie.Need-returns
-returns c = took _ _ (eq-eqb _ _ (c .if1 .taken)) refl
+unfolding pick
+returns c = rw (eq-eqb _ _ (c .if1 .taken))
 
 dup-fits-requires : tie.Need-dup-fits-requires
 dup-fits-requires c κs = search needs

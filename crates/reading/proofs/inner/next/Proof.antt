@@ -29,7 +29,7 @@ dup-requires : tie.Need-dup-requires
 dup-requires c κs =
     let z = c .before .before .before .before .before .before .before .before .before .before .before .before .before .before .before .before .before in let a = z .args in
     let t = dup-told (source (now (a .bytes)) (now (a .dir)) (now (a .cursors))) (a .state .names) _ (sym (c .before .before .before .before .before .before .before .head .ensures) ∙ c .before .before .before .before .before .d .given .1) in
-    (z .pre .1 .1 .0, ((t .0, t .1 .near), ((z .pre .1 .0 .table, head-passable _ _ _ _ _ _ (λ i. omega (arith, c .before .before .before .before .before .before .before .before .before .before .before .before .before .before .before .shared-slice-known2 .given i)) (t .1)), z .pre .1 .1 .1)))
+    (z .pre .1 .0, ((t .0, t .1 .near), ((z .pre .0 .table, head-passable _ _ _ _ _ _ (λ i. omega (arith, c .before .before .before .before .before .before .before .before .before .before .before .before .before .before .before .shared-slice-known2 .given i)) (t .1)), z .pre .1 .1)))
 
 enum-known-d-2 : tie.Need-enum-known-d-2
 enum-known-d-2 c = search needs
@@ -37,7 +37,7 @@ enum-known-d-2 c = search needs
 diff-requires : tie.Need-diff-requires
 diff-requires c κs =
     let z = c .before .before .before .before .before .before .before .before .before .before .before .before .before .before .before .before .before in let a = z .args in
-    (z .pre .0, (z .pre .1 .0, (z .pre .1 .1 .0, (diff-told (source (now (a .bytes)) (now (a .dir)) (now (a .cursors))) (a .state .names) _ (sym (c .before .before .before .before .before .before .before .head .ensures) ∙ c .before .before .before .before .before .d2 .given .1), z .pre .1 .1 .1))))
+    (z .pre .0, (z .pre .1 .0, (diff-told (source (now (a .bytes)) (now (a .dir)) (now (a .cursors))) (a .state .names) _ (sym (c .before .before .before .before .before .before .before .head .ensures) ∙ c .before .before .before .before .before .d2 .given .1), z .pre .1 .1)))
 
 enum-known-r : tie.Need-enum-known-r
 enum-known-r c = search needs

@@ -1,5 +1,5 @@
-use Rattle.reading.specs.Reads.{keepingName}
-use mathlib.Core.Path.{refl}
+use native.Mathlib.Omega.{arith}
+use Rattle.reading.proofs.Entries.{entered}
 use borrow.Author.Needs.{needs}
 use Rattle.reading.proofs.naming.enter.Statement.{statement}
 use Rattle.reading.proofs.naming.enter.Tie as tie
@@ -29,8 +29,9 @@ same-length : tie.Need-same-length
 same-length c = search needs
 
 returns : tie.Need-returns
-unfolding keepingName
-returns c = (refl, c .before .before .before .before .put-five .ensures)
+returns c =
+    let a = c .before .before .before .before .before .before .before .args in
+    (entered (a .state) (a .bytes) (a .added) (omega arith) (omega arith) (omega arith) (omega arith), c .before .before .before .before .put-five .ensures)
 
 pub enter-spec : {M : Type 1} → statement M
 enter-spec =

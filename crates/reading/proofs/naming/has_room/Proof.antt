@@ -1,7 +1,12 @@
 use Rattle.kept.specs.Tables.{room}
 use Rattle.base.proofs.Choice.{took, left}
+use Rattle.reading.proofs.Entries.{room-test}
 use borrow.Author.Tests.{le-leb, lt-leb}
 use mathlib.Core.Path.{refl}
+use Prim.Native.Nat.{_+_}
+use native.Mathlib.Omega.{arith}
+use lib.ListN.{length}
+use denote.Ref.{now}
 use borrow.Author.Needs.{needs}
 use Rattle.reading.proofs.naming.has_room.Statement.{statement}
 use Rattle.reading.proofs.naming.has_room.Tie as tie
@@ -16,7 +21,9 @@ add-if1-2 : tie.Need-add-if1-2
 add-if1-2 c = search needs
 
 returns : tie.Need-returns
-returns c = left _ _ (lt-leb _ _ (c .if1 .taken)) refl
+returns c =
+    let a = c .before .before .args in
+    left _ _ (lt-leb (a .state .text + a .bytes + 1) (length (now (a .text))) (omega (arith, c .if1 .taken))) refl
 
 cast-if2 : tie.Need-cast-if2
 cast-if2 c = search needs
@@ -24,9 +31,15 @@ cast-if2 c = search needs
 add-if2 : tie.Need-add-if2
 add-if2 c = search needs
 
+mul-if2 : tie.Need-mul-if2
+mul-if2 c = search needs
+
 returns-2 : tie.Need-returns-2
 unfolding room
-returns-2 c = took _ _ (le-leb _ _ (c .before .before .if1 .left)) (left _ _ (lt-leb _ _ (c .if2 .taken)) refl)
+returns-2 c =
+    let a = c .before .before .before .before .args in
+    took _ _ (le-leb (a .state .text + a .bytes + 1) (length (now (a .text))) (omega (arith, c .before .before .if1 .left)))
+    (left _ _ (lt-leb (a .state .names + 1) (room (now (a .entries))) (omega (arith, c .if2 .taken))) refl)
 
 cast-result : tie.Need-cast-result
 cast-result c = search needs
@@ -34,9 +47,15 @@ cast-result c = search needs
 add-result : tie.Need-add-result
 add-result c = search needs
 
+mul-result : tie.Need-mul-result
+mul-result c = search needs
+
 returns-3 : tie.Need-returns-3
 unfolding room
-returns-3 c = took _ _ (le-leb _ _ (c .before .before .before .if1 .left)) (took _ _ (le-leb _ _ (c .before .if2 .left)) refl)
+returns-3 c =
+    let a = c .before .before .before .before .before .args in
+    took _ _ (le-leb (a .state .text + a .bytes + 1) (length (now (a .text))) (omega (arith, c .before .before .before .if1 .left)))
+    (took _ _ (le-leb (a .state .names + 1) (room (now (a .entries))) (omega (arith, c .before .if2 .left))) (room-test (now (a .rows)) (a .state .rows + a .added)))
 
 pub has-room-spec : {M : Type 1} → statement M
 has-room-spec =
@@ -48,7 +67,9 @@ has-room-spec =
     returns
     cast-if2
     add-if2
+    mul-if2
     returns-2
     cast-result
     add-result
+    mul-result
     returns-3)

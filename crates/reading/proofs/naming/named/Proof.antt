@@ -1,121 +1,141 @@
-use Rattle.reading.proofs.Entries.{has-room, enter-asks, keep-asks, size-most, added-most, name-kept, name-full, name-refused}
-use Rattle.reading.proofs.Heads.{head-passable}
-use Rattle.steps.proofs.Laws.{rows-reach}
-use denote.Ref.{now}
+use Rattle.reading.proofs.Walking.{Starts, starts, known-as, walks-less, walk-asks, walk-refused, walk-full, head-asks, walk-on, entry-asks, walk-kept}
+use Rattle.base.specs.Choice.{pick}
 use native.Mathlib.Omega.{arith}
-use mathlib.Core.Path.{_≡_, refl, sym, ap, _∙_}
+use mathlib.Core.Bool.{true}
+use mathlib.Core.Path.{_≡_, sym, _∙_}
 use borrow.Author.Needs.{needs}
 use Rattle.reading.proofs.naming.named.Statement.{statement}
 use Rattle.reading.proofs.naming.named.Tie as tie
 
-judge-requires : tie.Need-judge-requires
-judge-requires c κs =
-    let z = c .before .before .before .before .before .before .before .before .before in let a = z .args in
-    (z .pre .0, (z .pre .1 .0, (rows-reach _ _ (z .pre .1 .1 .1 .0 .0) (omega (arith, z .pre .1 .1 .0 .most, z .pre .1 .1 .0 .kept, z .pre .1 .1 .0 .limit)), omega (arith, z .pre .1 .1 .1 .0 .1, z .pre .1 .1 .0 .rowsMost, z .pre .1 .1 .0 .kept, z .pre .1 .1 .0 .limit))))
+abbrev Inv-loop : tie.InvT-loop
+Inv-loop known bytes dir cursors₀ text₀ entries₀ rows₀ state distance first count keeping₀ cursors text entries rows keeping =
+    Starts bytes dir cursors₀ text₀ entries₀ rows₀ state (distance .0) first count keeping cursors text entries rows
 
-enum-known-added : tie.Need-enum-known-added
-enum-known-added c = search needs
+abbrev μ-loop : tie.MeasureT-loop
+μ-loop known bytes dir cursors₀ text₀ entries₀ rows₀ state distance first count keeping₀ cursors text entries rows keeping = pick keeping 0 1
 
-has-room-requires : tie.Need-has-room-requires
-has-room-requires c κs = search needs
+loop-holds : tie.Need-loop-holds Inv-loop μ-loop
+loop-holds c = starts _ _ _ _ _ _ _ _ _ _
 
-move-head-requires : tie.Need-move-head-requires
-move-head-requires c κs =
-    let z = c .before .before .before .before .before .before .before .before .before .before .before .before .before .before .before .before .before .before .before in let a = z .args in
-    ((z .pre .1 .0 .table, (omega arith, omega arith)), head-passable _ _ _ _ _ _ (λ i. omega (arith, c .before .before .before .before .before .before .before .before .before .before .before .before .before .before .before .before .before .shared-slice-known2 .given i)) (z .pre .1 .1 .1 .1))
+walk-requires : tie.Need-walk-requires Inv-loop μ-loop
+walk-requires c κs =
+    let h = c .before .before .before in let z = h .before .before .before .before .before .before .before in
+    walk-asks _ _ _ _ _ _ _ _ _ _ (z .pre .0) (z .pre .1 .0) (z .pre .1 .1 .0) (z .pre .1 .1 .1 .0) _ (known-as _ (search needs) (z .pre .1 .1 .1 .1)) _ (h .loop .inv)
 
-keep-requires : tie.Need-keep-requires
-keep-requires c κs =
-    let z = c .before .before .before .before .before .before .before .before .before .before .before .before .before .before .before .before .before .before .before .before .before .before .before .before .before in let a = z .args in
-    keep-asks (now (a .bytes)) (now (a .dir)) (now (a .cursors)) (now (a .text)) (now (a .entries)) (now (a .rows)) (a .state) (a .distance .0) (a .first) (a .count) _ (c .before .before .before .before .before .before .before .before .before .before .before .before .before .before .before .judge .ensures) _ _ (c .before .before .before .before .before .before .before .before .before .before .before .before .before .added .given .1) _ (c .before .before .before .before .before .move-head .ensures) (z .pre .1 .0) (z .pre .1 .1 .1 .1) (z .pre .1 .1 .0) (z .pre .1 .1 .1 .0 .0) (z .pre .1 .1 .1 .0 .1) (sym (c .before .before .before .before .before .before .before .before .has-room .ensures) ∙ c .before .before .before .before .before .before .before .if1 .taken)
-
-enter-requires : tie.Need-enter-requires
-enter-requires c κs =
-    let z = c .before .before .before .before .before .before .before .before .before .before .before .before .before .before .before .before .before .before .before .before .before .before .before .before .before .before .before .before .before .before .before .before .before in let a = z .args in
-    let q = c .before .before .before .before .before .before .before .before .before .before .before .before .before .before .before .before .before .before .before .before .before .added .given .1 in
-    enter-asks (now (a .bytes)) (now (a .dir)) (now (a .cursors)) (now (a .text)) (now (a .entries)) (now (a .rows)) (a .state) _ _ (z .pre .1 .1 .0) (has-room (now (a .bytes)) (now (a .dir)) (now (a .cursors)) (now (a .text)) (now (a .entries)) (now (a .rows)) (a .state) _ _ (sym (c .before .before .before .before .before .before .before .before .before .before .before .before .before .before .before .before .has-room .ensures) ∙ c .before .before .before .before .before .before .before .before .before .before .before .before .before .before .before .if1 .taken)) (size-most (now (a .bytes)) (now (a .dir)) (now (a .cursors)) (now (a .text)) (now (a .entries)) (now (a .rows)) (a .state) (a .distance .0) (a .first) (a .count) _ (c .before .before .before .before .before .before .before .before .before .before .before .before .before .before .before .before .before .before .before .before .before .before .before .judge .ensures) _ _ q) (added-most (now (a .bytes)) (now (a .dir)) (now (a .cursors)) (now (a .text)) (now (a .entries)) (now (a .rows)) (a .state) (a .distance .0) (a .first) (a .count) _ (c .before .before .before .before .before .before .before .before .before .before .before .before .before .before .before .before .before .before .before .before .before .before .before .judge .ensures) _ _ q)
-
-refuse-requires : tie.Need-refuse-requires
-refuse-requires c κs = search needs
-
-enum-known-r : tie.Need-enum-known-r
+enum-known-r : tie.Need-enum-known-r Inv-loop μ-loop
 enum-known-r c = search needs
 
-refuse-requires-2 : tie.Need-refuse-requires-2
-refuse-requires-2 c κs = search needs
+refuse-requires : tie.Need-refuse-requires Inv-loop μ-loop
+refuse-requires c κs = search needs
 
-same-length : tie.Need-same-length
+same-length : tie.Need-same-length Inv-loop μ-loop
 same-length c = search needs
 
-same-length-2 : tie.Need-same-length-2
+same-length-2 : tie.Need-same-length-2 Inv-loop μ-loop
 same-length-2 c = search needs
 
-same-length-3 : tie.Need-same-length-3
+same-length-3 : tie.Need-same-length-3 Inv-loop μ-loop
 same-length-3 c = search needs
 
-same-length-4 : tie.Need-same-length-4
+same-length-4 : tie.Need-same-length-4 Inv-loop μ-loop
 same-length-4 c = search needs
 
-returns : tie.Need-returns
+returns : tie.Need-returns Inv-loop μ-loop
 returns c =
-    let z = c .before .before .before .before .before .before .before .before .before .before .before .before .before .before .before .before .before .before .before .before .before .before .before .before .before .before .before .before .before .before .before .before .before .before .before .before in let a = z .args in
-    name-kept (now (a .bytes)) (now (a .dir)) (now (a .cursors)) (now (a .text)) (now (a .entries)) (now (a .rows)) (a .state) (a .distance .0) (a .first) (a .count) _ (c .before .before .before .before .before .before .before .before .before .before .before .before .before .before .before .before .before .before .before .before .before .before .before .before .before .before .judge .ensures) _ _ (c .before .before .before .before .before .before .before .before .before .before .before .before .before .before .before .before .before .before .before .before .before .before .before .before .added .given .1) _ (c .before .before .before .before .before .before .before .before .before .before .before .before .before .before .before .before .move-head .ensures) (c .before .before .before .before .before .before .before .before .before .before .keep .ensures) (sym (c .before .before .before .before .before .before .before .before .before .before .before .before .before .before .before .before .before .before .before .has-room .ensures) ∙ c .before .before .before .before .before .before .before .before .before .before .before .before .before .before .before .before .before .before .if1 .taken) (c .before .before .enter .ensures .0) (c .before .before .enter .ensures .1)
+    let w = c .before .before .before .before .before .before .before .before .before .before in let h = w .before .before .before .before in let z = h .before .before .before .before .before .before .before in
+    walk-refused _ _ _ _ _ _ _ _ _ _ (z .pre .0) (z .pre .1 .0) (z .pre .1 .1 .0) (z .pre .1 .1 .1 .0) _ _ _ _ _ (h .loop .inv) _ _ _ _ (w .walk .ensures .0) (w .walk .ensures .1) _ (c .before .before .r .given .1) (c .refuse .ensures)
 
-same-length-5 : tie.Need-same-length-5
+enum-known-added : tie.Need-enum-known-added Inv-loop μ-loop
+enum-known-added c = search needs
+
+enter-requires : tie.Need-enter-requires Inv-loop μ-loop
+enter-requires c κs =
+    let w = c .before .before .before .before .before .before .before .before .before .before .before in let h = w .before .before .before .before in let z = h .before .before .before .before .before .before .before in
+    let y : h .loop .keeping ≡ true = search needs in
+    entry-asks _ _ _ _ _ _ _ _ _ _ (z .pre .0) (z .pre .1 .0) (z .pre .1 .1 .0) (z .pre .1 .1 .1 .0) _ _ _ _ _ (h .loop .inv) _ _ _ _ (w .walk .ensures .0) (w .walk .ensures .1) _ _ (c .before .before .before .added .given .1) y
+
+same-length-5 : tie.Need-same-length-5 Inv-loop μ-loop
 same-length-5 c = search needs
 
-same-length-6 : tie.Need-same-length-6
+same-length-6 : tie.Need-same-length-6 Inv-loop μ-loop
 same-length-6 c = search needs
 
-same-length-7 : tie.Need-same-length-7
+same-length-7 : tie.Need-same-length-7 Inv-loop μ-loop
 same-length-7 c = search needs
 
-same-length-8 : tie.Need-same-length-8
+same-length-8 : tie.Need-same-length-8 Inv-loop μ-loop
 same-length-8 c = search needs
 
-returns-2 : tie.Need-returns-2
+returns-2 : tie.Need-returns-2 Inv-loop μ-loop
 returns-2 c =
-    let z = c .before .before .before .before .before .before .before .before .before .before .before .before .before .before .before .before .before .before .before in let a = z .args in
-    name-full (now (a .bytes)) (now (a .dir)) (now (a .cursors)) (now (a .text)) (now (a .entries)) (now (a .rows)) (a .state) (a .distance .0) (a .first) (a .count) _ (c .before .before .before .before .before .before .before .before .before .judge .ensures) _ _ (c .before .before .before .before .before .before .before .added .given .1) (sym (c .before .before .has-room .ensures) ∙ c .before .if1 .left) (c .refuse .ensures)
+    let w = c .before .before .before .before .before .before .before .before .before .before .before .before .before .before in let h = w .before .before .before .before in let z = h .before .before .before .before .before .before .before in
+    walk-kept _ _ _ _ _ _ _ _ _ _ (z .pre .0) (z .pre .1 .0) (z .pre .1 .1 .0) (z .pre .1 .1 .1 .0) _ _ _ _ _ (h .loop .inv) _ _ _ _ (w .walk .ensures .0) (w .walk .ensures .1) _ _ (c .before .before .before .before .before .before .added .given .1) (c .before .before .before .before .if1 .taken) (c .before .before .enter .ensures .0) (c .before .before .enter .ensures .1)
 
-same-length-9 : tie.Need-same-length-9
+has-room-requires : tie.Need-has-room-requires Inv-loop μ-loop
+has-room-requires c κs = search needs
+
+move-head-requires : tie.Need-move-head-requires Inv-loop μ-loop
+move-head-requires c κs =
+    let w = c .before .before .before .before .before .before .before .before .before .before .before .before .before .before .before .before in let h = w .before .before .before .before in let z = h .before .before .before .before .before .before .before in
+    head-asks _ _ _ _ _ _ _ _ _ _ (z .pre .0) (z .pre .1 .0) (z .pre .1 .1 .0) (z .pre .1 .1 .1 .0) _ _ _ _ _ (h .loop .inv) _ _ _ _ (w .walk .ensures .0) (w .walk .ensures .1) _ _ (c .before .before .before .before .before .before .before .before .added .given .1) (c .before .before .before .before .before .before .if1 .left) (λ i. omega (arith, h .before .before .before .before .before .shared-slice-known2 .given i))
+
+loop-less : tie.Need-loop-less Inv-loop μ-loop
+loop-less c = walks-less (c .before .before .before .before .before .before .before .before .before .if1 .left)
+
+loop-again : tie.Need-loop-again Inv-loop μ-loop
+loop-again c =
+    let w = c .before .before .before .before .before .before .before .before .before .before .before .before .before .before .before .before .before .before .before in let h = w .before .before .before .before in let z = h .before .before .before .before .before .before .before in
+    walk-on _ _ _ _ _ _ _ _ _ _ (z .pre .0) (z .pre .1 .0) (z .pre .1 .1 .0) (z .pre .1 .1 .1 .0) _ _ _ _ _ (h .loop .inv) _ _ _ _ (w .walk .ensures .0) (w .walk .ensures .1) _ _ (c .before .before .before .before .before .before .before .before .before .before .before .added .given .1) (c .before .before .before .before .before .before .before .before .before .if1 .left) (sym (c .before .before .before .before .before .has-room .ensures) ∙ c .before .before .before .before .if2 .taken) (c .before .before .move-head .ensures)
+
+refuse-requires-2 : tie.Need-refuse-requires-2 Inv-loop μ-loop
+refuse-requires-2 c κs = search needs
+
+same-length-9 : tie.Need-same-length-9 Inv-loop μ-loop
 same-length-9 c = search needs
 
-same-length-10 : tie.Need-same-length-10
+same-length-10 : tie.Need-same-length-10 Inv-loop μ-loop
 same-length-10 c = search needs
 
-same-length-11 : tie.Need-same-length-11
+same-length-11 : tie.Need-same-length-11 Inv-loop μ-loop
 same-length-11 c = search needs
 
-returns-3 : tie.Need-returns-3
+same-length-12 : tie.Need-same-length-12 Inv-loop μ-loop
+same-length-12 c = search needs
+
+returns-3 : tie.Need-returns-3 Inv-loop μ-loop
 returns-3 c =
-    let z = c .before .before .before .before .before .before .before .before .before .before .before .before .before .before in let a = z .args in
-    name-refused (now (a .bytes)) (now (a .dir)) (now (a .cursors)) (now (a .text)) (now (a .entries)) (now (a .rows)) (a .state) (a .distance .0) (a .first) (a .count) _ (c .before .before .before .before .judge .ensures) _ (c .before .before .r .given .1) (c .refuse2 .ensures)
+    let w = c .before .before .before .before .before .before .before .before .before .before .before .before .before .before .before .before in let h = w .before .before .before .before in let z = h .before .before .before .before .before .before .before in
+    walk-full _ _ _ _ _ _ _ _ _ _ (z .pre .0) (z .pre .1 .0) (z .pre .1 .1 .0) (z .pre .1 .1 .1 .0) _ _ _ _ _ (h .loop .inv) _ _ _ _ (w .walk .ensures .0) (w .walk .ensures .1) _ _ (c .before .before .before .before .before .before .before .before .added .given .1) (c .before .before .before .before .before .before .if1 .left) (sym (c .before .before .has-room .ensures) ∙ c .before .if2 .left) (c .refuse2 .ensures)
 
 pub named-spec : {M : Type 1} → statement M
 named-spec =
     tie.close
     (tie.spec
-    judge-requires
-    enum-known-added
-    has-room-requires
-    move-head-requires
-    keep-requires
-    enter-requires
-    refuse-requires
+    Inv-loop
+    μ-loop
+    loop-holds
+    walk-requires
     enum-known-r
-    refuse-requires-2
+    refuse-requires
     same-length
     same-length-2
     same-length-3
     same-length-4
     returns
+    enum-known-added
+    enter-requires
     same-length-5
     same-length-6
     same-length-7
     same-length-8
     returns-2
+    has-room-requires
+    move-head-requires
+    loop-less
+    loop-again
+    refuse-requires-2
     same-length-9
     same-length-10
     same-length-11
+    same-length-12
     returns-3)

@@ -1,5 +1,5 @@
-use mathlib.Core.Path.{refl, sym, _∙_}
-use Rattle.base.proofs.Choice.{took, left}
+use mathlib.Core.Path.{sym, _∙_}
+use Rattle.base.specs.Choice.{pick}
 use Rattle.steps.specs.Steps.{paddedStep}
 use borrow.Author.Needs.{needs}
 use Rattle.steps.proofs.fresh.padded_step.Statement.{statement}
@@ -9,12 +9,12 @@ fits-width-requires : tie.Need-fits-width-requires
 fits-width-requires c κs = search needs
 
 returns : tie.Need-returns
-unfolding paddedStep
-returns c = took _ _ (sym (c .before .fits-width .ensures) ∙ c .if1 .taken) refl
+unfolding paddedStep pick
+returns c = rw (sym (c .before .fits-width .ensures) ∙ c .if1 .taken)
 
 returns-2 : tie.Need-returns-2
-unfolding paddedStep
-returns-2 c = left _ _ (sym (c .before .fits-width .ensures) ∙ c .if1 .left) refl
+unfolding paddedStep pick
+returns-2 c = rw (sym (c .before .fits-width .ensures) ∙ c .if1 .left)
 
 pub padded-step-spec : {M : Type 1} → statement M
 padded-step-spec = tie.close (tie.spec fits-width-requires returns returns-2)

@@ -22,7 +22,7 @@ returns-3 : tie.Need-returns-3
 returns-3 c =
     λ text.
     let r = c .before .before .before .before in
-    delta0-is _ _ _ (r .before .if1 .left) (r .row-here .ensures) (c .before .before .if2 .left) (c .before .byte-in .ensures) (c .delta0-step .ensures)
+    delta0-is _ _ _ (r .before .if1 .left) (r .row-here .ensures) (c .before .before .if2 .left) (c .before .byte-in .ensures) (rw (c .delta0-step .ensures))
 
 pub delta0-at-spec : {M : Type 1} → statement M
 delta0-at-spec =

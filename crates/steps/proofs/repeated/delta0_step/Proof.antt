@@ -1,4 +1,6 @@
-use Rattle.steps.proofs.Ways.{sum0-fits, sum0-long}
+use borrow.Author.Tests.{lt-ltb}
+use Rattle.base.specs.Choice.{pick}
+use Rattle.steps.proofs.Ways.{sum0-long}
 use Rattle.steps.specs.Steps.{delta0Step}
 use borrow.Author.Needs.{needs}
 use Rattle.steps.proofs.repeated.delta0_step.Statement.{statement}
@@ -23,7 +25,8 @@ enum-told : tie.Need-enum-told
 enum-told c = search needs
 
 returns : tie.Need-returns
-returns c = rw (c .before .before .before .found .given .1) (sum0-fits _ _ _ _ (c .before .if1 .taken) (c .padded-step .ensures))
+unfolding delta0Step pick
+returns c = rw (c .before .before .before .found .given .1, lt-ltb _ _ (c .before .if1 .taken), c .padded-step .ensures)
 
 returns-2 : tie.Need-returns-2
 returns-2 c = rw (c .before .before .found .given .1) (sum0-long _ _ _ _ (c .if1 .left))

@@ -6,8 +6,9 @@ use lib.ListN.{length, drop}
 use denote.Ref.{now}
 use borrow.Author.Needs.{needs}
 use Rattle.base.specs.Memory.{part}
+use Rattle.base.proofs.Lists.{part-none}
 use Rattle.writing.specs.Names.{namesAfter}
-use Rattle.writing.proofs.NameLaws.{names-here, name-next, part-empty, not-last}
+use Rattle.writing.proofs.NameLaws.{names-here, name-next, not-last}
 use Rattle.writing.proofs.names.name_end.Statement.{statement}
 use Rattle.writing.proofs.names.name_end.Tie as tie
 
@@ -18,7 +19,7 @@ abbrev μ-loop : tie.MeasureT-loop
 μ-loop input at i₀ i = length input - i
 
 loop-holds : tie.Need-loop-holds Inv-loop μ-loop
-loop-holds c = let a = c .args in (search needs, (search needs, ap (λ (l : List ℕ). namesAfter l (drop (a .at) (now (a .input)))) (part-empty (now (a .input)) (a .at))))
+loop-holds c = let a = c .args in (search needs, (search needs, ap (λ (l : List ℕ). namesAfter l (drop (a .at) (now (a .input)))) (part-none (now (a .input)) (a .at) (a .at) (omega arith))))
 
 shared-slice-read-if1 : tie.Need-shared-slice-read-if1 Inv-loop μ-loop
 shared-slice-read-if1 c = search needs

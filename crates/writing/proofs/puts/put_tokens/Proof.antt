@@ -3,7 +3,9 @@ use mathlib.Core.Path.{_≡_, refl, _∙_}
 use native.Mathlib.Omega.{arith}
 use lib.ListN.{length}
 use denote.Ref.{now}
+use borrow.Author.Needs.{needs}
 use Rattle.splitting.proofs.Runs.{cut-range}
+use Rattle.splitting.proofs.Cuts.{cut-end}
 use Rattle.splitting.proofs.Pieces.{choice-within}
 use Rattle.laying.specs.Passes.{world}
 use Rattle.writing.proofs.Walks.{Walking, walk-start, walk-room, walk-more, walk-last, walk-end}
@@ -22,31 +24,29 @@ loop-holds c =
     let a = s .args in
     (refl, (refl, walk-start (a .pass) (now (a .before)) (now (a .name)) (world (a .total) (now (a .directory)) (now (a .bytes))) (s .pre .1)))
 
+cut-at-requires : tie.Need-cut-at-requires Inv-loop μ-loop
+cut-at-requires c κs = c .before .before .before .before .before .before .pre .0
+
+cut-at-requires-2 : tie.Need-cut-at-requires-2 Inv-loop μ-loop
+cut-at-requires-2 c κs = c .before .before .before .before .before .before .before .pre .0
+
 choice-at-requires : tie.Need-choice-at-requires Inv-loop μ-loop
-choice-at-requires c κs = (c .before .before .before .before .before .before .pre .0, c .loop-test .taken)
+choice-at-requires c κs = (c .before .before .before .before .before .before .before .before .pre .0, (c .before .before .loop-test .taken, (c .before .cut-at .ensures, c .cut-at2 .ensures)))
 
 put-choice-requires : tie.Need-put-choice-requires Inv-loop μ-loop
 put-choice-requires c κs =
-    let l = c .before .before .before .before .loop in
-    let s = c .before .before .before .before .before .before .before .before .before in
+    let l = c .before .before .before .before .before .before .loop in
+    let s = c .before .before .before .before .before .before .before .before .before .before .before in
     let a = s .args in
     let e = c .before .before .choice-at .ensures in
-    let h = c .before .before .before .loop-test .taken in (
+    let h = c .before .before .before .before .before .loop-test .taken in (
       (l .inv .1 .1 .high, rw e (choice-within (now (a .before)) (now (a .name)) (l .p) (l .a) (l .b) h)),
       walk-room (a .pass) (now (a .before)) (now (a .name)) (world (a .total) (now (a .directory)) (now (a .bytes))) (world (l .sum) (l .directory) (l .bytes)) (l .p) (l .a) (l .b) (l .inv .1 .1) h _ e,
     )
 
-cut-requires : tie.Need-cut-requires Inv-loop μ-loop
-cut-requires c κs = c .before .before .before .before .before .before .before .before .before .before .before .before .before .before .pre .0
-
-cut-requires-2 : tie.Need-cut-requires-2 Inv-loop μ-loop
-cut-requires-2 c κs = c .before .before .before .before .before .before .before .before .before .before .before .before .before .before .before .pre .0
-
 add-p : tie.Need-add-p Inv-loop μ-loop
 add-p c =
     let l = c .before .before .before .before .before .before .before .before .before .before .before .loop in
-    let s = c .before .before .before .before .before .before .before .before .before .before .before .before .before .before .before .before in
-    let a = s .args in
     let h : l .p ≤ 128 = l .inv .1 .1 .high in
     omega arith
 
@@ -57,41 +57,52 @@ loop-less c =
     let a = s .args in
     let h : l .a < length (now (a .name)) = c .before .before .before .before .before .before .before .before .before .before .loop-test .taken in
     let r = cut-range (now (a .name)) (l .a) h (l .p) in
-    omega (arith, c .before .cut .ensures)
+    omega (arith, cut-end (now (a .name)) (l .p) (l .a) (c .before .before .before .before .before .before .before .before .before .cut-at .ensures))
 
 loop-again : tie.Need-loop-again Inv-loop μ-loop
 loop-again c =
     let l = c .before .before .before .before .before .before .before .before .before .before .before .loop in
     let s = c .before .before .before .before .before .before .before .before .before .before .before .before .before .before .before .before in
     let a = s .args in
-    let h = c .before .before .before .before .before .before .before .before .before .before .loop-test .taken in
-    let k = c .before .before .before .before .before .before .put-choice .kept in (
+    let k = c .before .before .before .before .put-choice .kept in (
       k .1 .1 .0 ∙ l .inv .0,
       (
         k .1 .1 .1 .0 ∙ l .inv .1 .0,
-        walk-more (a .pass) (now (a .before)) (now (a .name)) (world (a .total) (now (a .directory)) (now (a .bytes))) (world (l .sum) (l .directory) (l .bytes)) (l .p) (l .a) (l .b) (l .inv .1 .1) h _ (c .before .before .before .before .before .before .before .before .before .choice-at .ensures) (c .before .before .before .before .before .before .put-choice .ensures) (c .before .cut .ensures) (c .cut2 .ensures),
+        walk-more (a .pass) (now (a .before)) (now (a .name)) (world (a .total) (now (a .directory)) (now (a .bytes))) (world (l .sum) (l .directory) (l .bytes)) (l .p) (l .a) (l .b) (l .inv .1 .1) (c .before .before .before .before .before .before .before .before .before .before .loop-test .taken) _ (c .before .before .before .before .before .before .before .choice-at .ensures) (c .before .before .before .before .put-choice .ensures) (cut-end (now (a .name)) (l .p) (l .a) (c .before .before .before .before .before .before .before .before .before .cut-at .ensures)) (cut-end (now (a .before)) (l .p) (l .b) (c .before .before .before .before .before .before .before .before .cut-at2 .ensures)),
       ),
     )
 
-put-choice-requires-2 : tie.Need-put-choice-requires-2 Inv-loop μ-loop
-put-choice-requires-2 c κs =
-    let l = c .before .before .before .loop in
-    let s = c .before .before .before .before .before .before .before .before in
+type-number-requires : tie.Need-type-number-requires Inv-loop μ-loop
+type-number-requires c κs = search needs
+
+cast-put-byte : tie.Need-cast-put-byte Inv-loop μ-loop
+cast-put-byte c = search needs
+
+mul-put-byte : tie.Need-mul-put-byte Inv-loop μ-loop
+mul-put-byte c =
+    let l = c .before .before .before .before .loop in
+    let h : l .p ≤ 128 = l .inv .1 .1 .high in
+    omega arith
+
+put-byte-requires : tie.Need-put-byte-requires Inv-loop μ-loop
+put-byte-requires c κs =
+    let l = c .before .before .before .before .loop in
+    let s = c .before .before .before .before .before .before .before .before .before in
     let a = s .args in
-    ((l .inv .1 .1 .high, tt), walk-last (a .pass) (now (a .before)) (now (a .name)) (world (a .total) (now (a .directory)) (now (a .bytes))) (world (l .sum) (l .directory) (l .bytes)) (l .p) (l .a) (l .b) (l .inv .1 .1) (c .before .before .loop-test .left))
+    walk-last (a .pass) (now (a .before)) (now (a .name)) (world (a .total) (now (a .directory)) (now (a .bytes))) (world (l .sum) (l .directory) (l .bytes)) (l .p) (l .a) (l .b) (l .inv .1 .1) (c .before .before .before .loop-test .left)
 
 same-length : tie.Need-same-length Inv-loop μ-loop
-same-length c = c .before .before .before .before .put-choice2 .kept .1 .1 .0 ∙ c .before .before .before .before .before .before .before .before .loop .inv .0
+same-length c = c .before .before .before .before .put-byte .kept .1 .1 .0 ∙ c .before .before .before .before .before .before .before .before .before .loop .inv .0
 
 same-length-2 : tie.Need-same-length-2 Inv-loop μ-loop
-same-length-2 c = c .before .before .before .before .put-choice2 .kept .1 .1 .1 .0 ∙ c .before .before .before .before .before .before .before .before .loop .inv .1 .0
+same-length-2 c = c .before .before .before .before .put-byte .kept .1 .1 .1 .0 ∙ c .before .before .before .before .before .before .before .before .before .loop .inv .1 .0
 
 returns : tie.Need-returns Inv-loop μ-loop
 returns c =
-    let l = c .before .before .before .before .before .before .before .before .loop in
-    let s = c .before .before .before .before .before .before .before .before .before .before .before .before .before in
+    let l = c .before .before .before .before .before .before .before .before .before .loop in
+    let s = c .before .before .before .before .before .before .before .before .before .before .before .before .before .before in
     let a = s .args in
-    walk-end (a .pass) (now (a .before)) (now (a .name)) (world (a .total) (now (a .directory)) (now (a .bytes))) (world (l .sum) (l .directory) (l .bytes)) (l .p) (l .a) (l .b) (l .inv .1 .1) (c .before .before .before .before .before .before .before .loop-test .left) (c .before .before .before .before .put-choice2 .ensures)
+    walk-end (a .pass) (now (a .before)) (now (a .name)) (world (a .total) (now (a .directory)) (now (a .bytes))) (world (l .sum) (l .directory) (l .bytes)) (l .p) (l .a) (l .b) (l .inv .1 .1) (c .before .before .before .before .before .before .before .before .loop-test .left) (c .before .before .before .before .before .before .before .type-number .ensures) (c .before .before .before .before .put-byte .ensures)
 
 pub put-tokens-spec : {M : Type 1} → statement M
 put-tokens-spec =
@@ -100,14 +111,17 @@ put-tokens-spec =
     Inv-loop
     μ-loop
     loop-holds
+    cut-at-requires
+    cut-at-requires-2
     choice-at-requires
     put-choice-requires
-    cut-requires
-    cut-requires-2
     add-p
     loop-less
     loop-again
-    put-choice-requires-2
+    type-number-requires
+    cast-put-byte
+    mul-put-byte
+    put-byte-requires
     same-length
     same-length-2
     returns)

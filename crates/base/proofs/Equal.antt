@@ -1,0 +1,56 @@
+-- "The same" is equality, and how the loop that compares from the end goes.
+use Prim.Native.Nat.{ℕ, _+_, _≤_, _<_}
+use mathlib.Core.Path.{_≡_, refl, sym, ap, _∙_}
+use mathlib.Core.Bool.{true, false}
+use mathlib.Core.List.{List, [], _∷_}
+use native.Mathlib.Numerals.{add-one}
+use borrow.Author.Tests.{eqb-true, eq-eqb}
+use lib.Dec.{eqb}
+use lib.ListN.{length, drop, getD, drop-of-length-le}
+use lib.Seq.{drop-cons}
+use Rattle.base.specs.Choice.{both}
+use Rattle.base.specs.Same.{same}
+use Rattle.base.proofs.Choice.{both-true, both-of, fails, never}
+
+pub same-equal : (s t : List ℕ) → same s t ≡ true → s ≡ t
+unfolding same
+same-equal [] [] e = refl
+same-equal [] (b ∷ t) e = cc
+same-equal (a ∷ s) [] e = cc
+same-equal (a ∷ s) (b ∷ t) e =
+    let p = both-true (eqb a b) (same s t) e in
+    rw (eqb-true a b (p .0), same-equal s t (p .1))
+
+pub same-self : (s : List ℕ) → same s s ≡ true
+unfolding same
+same-self [] = refl
+same-self (a ∷ s) = both-of (eq-eqb a a refl) (same-self s)
+
+pub equal-same : (s t : List ℕ) → s ≡ t → same s t ≡ true
+equal-same s t e = rw e (same-self t)
+
+pub same-differ : (s t : List ℕ) → (s ≡ t → ⊥) → same s t ≡ false
+same-differ s t n = fails (λ e. n (same-equal s t e))
+
+pub differ-same : (s t : List ℕ) → same s t ≡ false → s ≡ t → ⊥
+differ-same s t e q = never (sym e ∙ equal-same s t q)
+
+module _ (s t : List ℕ) where
+  pub other-length : (length s ≡ length t → ⊥) → false ≡ same s t
+  other-length n = sym (same-differ s t (λ e. n (ap length e)))
+
+  module _ (i : ℕ) where
+    pub other-byte : (getD s i 0 ≡ getD t i 0 → ⊥) → false ≡ same s t
+    other-byte n = sym (same-differ s t (λ e. n (ap (λ (l : List ℕ). getD l i 0) e)))
+
+    step : i < length s → i < length t → same (drop i s) (drop i t) ≡ both (eqb (getD s i 0) (getD t i 0)) (same (drop (i + 1) s) (drop (i + 1) t))
+    unfolding same
+    step h k = rw (drop-cons s i 0 h, drop-cons t i 0 k, add-one)
+
+    -- the loop carries "the same from here on"
+    pub same-more : i < length s → i < length t → getD s i 0 ≡ getD t i 0 → same (drop (i + 1) s) (drop (i + 1) t) ≡ true → same (drop i s) (drop i t) ≡ true
+    same-more h k e f = step h k ∙ both-of (eq-eqb _ _ e) f
+
+    pub same-none : length s ≤ i → length t ≤ i → same (drop i s) (drop i t) ≡ true
+    unfolding same
+    same-none h k = rw (drop-of-length-le s h, drop-of-length-le t k)

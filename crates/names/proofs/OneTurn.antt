@@ -1,0 +1,139 @@
+-- One turn of the walk: what it asks for, and what its answers say of the step that stood there.
+use Prim.Native.Nat.{ℕ, _+_, _-_, _*_, _^_, _≤_, _<_}
+use mathlib.Core.Path.{_≡_, refl, sym, ap, _∙_, subst}
+use mathlib.Core.Bool.{Bool, true, false}
+use mathlib.Core.List.{List}
+use native.Mathlib.Omega.{arith}
+use lib.Dec.{eqb}
+use Rattle.base.specs.Choice.{pick}
+use Rattle.base.proofs.Choice.{took, left}
+use Rattle.spans.specs.declared.Cursor.{Cursor}
+use Rattle.spans.specs.declared.NextByte.{NextByte}
+use Rattle.block.specs.Block.{spanOf, endOf, cursorOf}
+use Rattle.tokens.specs.declared.TokenType.{TokenType}
+use Rattle.tokens.specs.declared.TokenType.the-variants as type
+use Rattle.tokens.specs.declared.Token.{Token}
+use Rattle.tokens.specs.Types.{typeOf}
+use Rattle.tokens.specs.Tokens.{bytesOf, lengthOf}
+use Rattle.tokens.specs.Inside.{Inside}
+use Rattle.tokens.proofs.Laws.{below-more}
+use Rattle.steps.specs.declared.Step.{Step}
+use Rattle.steps.specs.declared.Step.the-variants as step
+use Rattle.steps.specs.Source.{Source, Earlier, byteIn}
+use Rattle.steps.specs.Steps.{stepAt}
+use Rattle.steps.specs.Sound.{Below}
+use Rattle.steps.proofs.Moves.{Moved}
+use Rattle.steps.proofs.Laws.{Known, Given, given}
+use Rattle.names.specs.declared.Judged.the-variants as judged
+use Rattle.names.specs.declared.Place.{Place}
+use Rattle.names.specs.declared.Turn.{Turn}
+use Rattle.names.specs.declared.Turn.the-variants.{On, End, Refused}
+use Rattle.names.specs.Names.{typeIn, printable}
+use Rattle.names.specs.Keeps.{Memory, putToken}
+use Rattle.names.specs.Walks.{taken, turnOf, turnPut, endedOf, RoomAt, Keepable}
+
+-- A token
+
+kept-taken : {keeping : Bool} (bytes text : List ℕ) (t : Token) (len : ℕ) → keeping ≡ true → true ≡ taken keeping bytes text t len
+unfolding taken
+kept-taken bytes text t len k = took _ _ k refl
+
+judged-taken : {keeping : Bool} (bytes text : List ℕ) (t : Token) (len : ℕ) {r : Bool} → keeping ≡ false → r ≡ printable (bytesOf bytes text t) len
+    → r ≡ taken keeping bytes text t len
+unfolding taken
+judged-taken bytes text t len k q = left _ _ k q
+
+module _ {keeping : Bool} (bytes text : List ℕ) (t : Token) (c : Cursor) (len : ℕ) where
+  pub kept-on : {w : ℕ} → keeping ≡ true → w ≡ lengthOf t → On w ≡ turnOf keeping bytes text len (step.Got t c)
+  unfolding turnOf
+  kept-on k w = took _ _ (sym (kept-taken bytes text t len k)) (ap On w)
+
+  pub judged-on : {w : ℕ} {r : Bool} → keeping ≡ false → r ≡ printable (bytesOf bytes text t) len → r ≡ true → w ≡ lengthOf t
+      → On w ≡ turnOf keeping bytes text len (step.Got t c)
+  unfolding turnOf
+  judged-on k q y w = took _ _ (sym (judged-taken bytes text t len k q) ∙ y) (ap On w)
+
+  pub judged-spoils : {r : Bool} → keeping ≡ false → r ≡ printable (bytesOf bytes text t) len → r ≡ false
+      → Refused 8 ≡ turnOf keeping bytes text len (step.Got t c)
+  unfolding turnOf
+  judged-spoils k q y = left _ _ (sym (judged-taken bytes text t len k q) ∙ y) refl
+
+pub put-typed : (bytes : List ℕ) (m : Memory) (t : Token) {ty found : TokenType} (p c at row : ℕ) {m' : Memory} → ty ≡ found
+    → m' ≡ putToken bytes m t ty p c at row → m' ≡ putToken bytes m t found p c at row
+put-typed bytes m t p c at row e q = rw (← e) q
+
+-- A turn, in a contract's direction
+
+module _ (keeping : Bool) (bytes text : List ℕ) (len : ℕ) {st : Step} where
+  pub turn-got : {t : Token} {c : Cursor} {r : Turn} → st ≡ step.Got t c → r ≡ turnOf keeping bytes text len (step.Got t c) → r ≡ turnOf keeping bytes text len st
+  turn-got s q = rw s q
+
+  pub turn-ends : st ≡ step.End → End ≡ turnOf keeping bytes text len st
+  unfolding turnOf
+  turn-ends s = rw s
+
+  pub turn-refuses : {r : ℕ} → st ≡ step.Refused r → Refused r ≡ turnOf keeping bytes text len st
+  unfolding turnOf
+  turn-refuses s = rw s
+
+module _ (keeping : Bool) (bytes : List ℕ) {st : Step} (at : Place) (m : Memory) where
+  pub turn-puts : {t : Token} {c : Cursor} {ty found : TokenType} {m' : Memory} → st ≡ step.Got t c → found ≡ ty
+      → m' ≡ pick keeping (putToken bytes m t found (at .p) (c .0) (at .used + at .len) (at .row + (at .p - 1))) m → m' ≡ turnPut keeping bytes st ty at m
+  unfolding turnPut
+  turn-puts s e q = rw (s, ← e) q
+
+  pub end-leaves : (ty : TokenType) → st ≡ step.End → m ≡ turnPut keeping bytes st ty at m
+  unfolding turnPut
+  end-leaves ty s = rw s
+
+  pub refusal-leaves : (ty : TokenType) {r : ℕ} → st ≡ step.Refused r → m ≡ turnPut keeping bytes st ty at m
+  unfolding turnPut
+  refusal-leaves ty s = rw s
+
+-- END, in a contract's direction
+
+pub kept-ends : {keeping : Bool} (n len : ℕ) → keeping ≡ true → judged.Name n len ≡ endedOf keeping n len
+unfolding endedOf
+kept-ends n len k = took _ _ k refl
+
+pub empty-ends : {keeping : Bool} (n len : ℕ) → keeping ≡ false → eqb len 0 ≡ true → judged.Refused 8 ≡ endedOf keeping n len
+unfolding endedOf
+empty-ends n len k z = left _ _ k (took _ _ z refl)
+
+pub judged-ends : {keeping : Bool} (n len : ℕ) → keeping ≡ false → eqb len 0 ≡ false → judged.Name n len ≡ endedOf keeping n len
+unfolding endedOf
+judged-ends n len k z = left _ _ k (left _ _ z refl)
+
+-- What a token asks for, from what is known where the step is taken
+
+module _ (s : Source) (e : Earlier) (at : Place) (k : Known s e (at .used) (at .p)) (dirBelow : Below (2 ^ 32) (s .dir))
+    (t : Token) (c : Cursor) (q : stepAt s e (at .p) ≡ step.Got t c) where
+  told : Given s e (at .used) (at .p) t c
+  told = given s e (at .used) (at .p) k q
+
+  end-below : (i : ℕ) → endOf (s .dir) i < 2 ^ 32
+  unfolding endOf
+  end-below i = dirBelow (2 * i + 1)
+
+  type-here : typeIn (byteIn s (at .p) 0) ≡ typeOf (told .code)
+  unfolding typeIn
+  type-here = rw (told .typed)
+
+  width-there : typeOf (told .code) ≡ type.Digits0 → cursorOf (s .cur) (spanOf (at .p) 4) + 1 ≤ endOf (s .dir) (spanOf (at .p) 4)
+  width-there h = subst (λ (ty : TokenType). Moved s (at .p) (c .0) ty) h (told .moved) .1
+
+  pub token-inside : Inside (s .bytes) (e .text) t
+  token-inside = told .inside
+
+  pub token-keeps : {found : NextByte} → found ≡ byteIn s (at .p) 0 → RoomAt (stepAt s e (at .p)) at (e .text) (e .rows)
+      → Keepable t (typeIn found) (at .p) (at .used + at .len) (at .row + (at .p - 1)) (s .cur) (e .text) (e .rows)
+  token-keeps f r =
+      let room = subst (λ (x : Step). RoomAt x at (e .text) (e .rows)) q r in
+      record {
+        below = below-more (at .used) (at .used + at .len) t (told .below) (omega arith);
+        bytes = room .0;
+        table = room .1;
+        spans = k .opened .table;
+        typed = omega (arith, told .there, end-below (spanOf (at .p) 0));
+        movable = λ h. omega (arith, width-there (sym type-here ∙ sym (ap typeIn f) ∙ h), end-below (spanOf (at .p) 4));
+      }

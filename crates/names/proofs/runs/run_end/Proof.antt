@@ -1,0 +1,71 @@
+use borrow.Author.Needs.{needs}
+use native.Mathlib.Omega.{arith}
+use borrow.Author.Tests.{not-true, not-false}
+use Prim.Native.Nat.{_+_, _-_, _≤_}
+use mathlib.Core.Path.{_≡_, refl, sym, ap, _∙_}
+use denote.Ref.{now}
+use Rattle.steps.specs.Source.{Source, source}
+use Rattle.names.specs.Runs.{isMatch, runEnd}
+use Rattle.names.proofs.Matches.{run-over, run-stops, run-more}
+use Rattle.names.proofs.runs.run_end.Statement.{statement}
+use Rattle.names.proofs.runs.run_end.Tie as tie
+
+abbrev Inv-loop : tie.InvT-loop
+Inv-loop bytes dir cursors p end q₀ q = (p ≤ q) × (runEnd (source bytes dir cursors) q (end - q) ≡ runEnd (source bytes dir cursors) p (end - p))
+
+abbrev μ-loop : tie.MeasureT-loop
+μ-loop bytes dir cursors p end q₀ q = end - q
+
+-- what the function looks at, from a place at the loop's head
+abbrev src : tie.At-loop Inv-loop μ-loop → Source
+src h = let a = h .before .before .before .before .args in source (now (a .bytes)) (now (a .dir)) (now (a .cursors))
+
+loop-holds : tie.Need-loop-holds Inv-loop μ-loop
+loop-holds c = (search needs, refl)
+
+byte-in-requires : tie.Need-byte-in-requires Inv-loop μ-loop
+byte-in-requires c κs = search needs
+
+is-match-requires : tie.Need-is-match-requires Inv-loop μ-loop
+is-match-requires c κs = search needs
+
+returns : tie.Need-returns Inv-loop μ-loop
+returns c =
+    let h = c .before .before .before .before in let l = h .loop in let a = h .before .before .before .before .args in
+    let e = run-stops (src h) (l .q) (a .end - l .q) (a .end - (l .q + 1)) (omega arith) (sym (c .before .is-match .ensures ∙ ap isMatch (c .before .before .byte-in .ensures)) ∙ not-true (c .before .is-match .result) (c .if1 .taken)) in
+    omega (arith, l .inv .1)
+
+add-q : tie.Need-add-q Inv-loop μ-loop
+add-q c = search needs
+
+loop-less : tie.Need-loop-less Inv-loop μ-loop
+loop-less c = search needs
+
+loop-again : tie.Need-loop-again Inv-loop μ-loop
+loop-again c =
+    let h = c .before .before .before .before in let l = h .loop in let a = h .before .before .before .before .args in (
+      omega arith,
+      run-more (src h) (l .q) (a .end - l .q) (a .end - (l .q + 1)) (omega arith)
+          (sym (c .before .is-match .ensures ∙ ap isMatch (c .before .before .byte-in .ensures)) ∙ not-false (c .before .is-match .result) (c .if1 .left))
+          ∙ l .inv .1,
+    )
+
+returns-2 : tie.Need-returns-2 Inv-loop μ-loop
+returns-2 c =
+    let h = c .before in let l = h .loop in let a = h .before .before .before .before .args in
+    run-over (src h) (l .q) (a .end - l .q) (omega arith) ∙ l .inv .1
+
+pub run-end-spec : {M : Type 1} → statement M
+run-end-spec =
+    tie.close
+    (tie.spec
+    Inv-loop
+    μ-loop
+    loop-holds
+    byte-in-requires
+    is-match-requires
+    returns
+    add-q
+    loop-less
+    loop-again
+    returns-2)

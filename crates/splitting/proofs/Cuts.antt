@@ -1,0 +1,105 @@
+-- Cuts: where a token ends, and that a run of digits is read while its end is looked for.
+use Prim.Native.Nat.{ℕ, _+_, _-_, _*_, _^_, _≤_, _<_}
+use mathlib.Core.Path.{_≡_, refl, sym, ap, _∙_}
+use mathlib.Core.Bool.{true}
+use mathlib.Core.List.{List}
+use native.Mathlib.Omega.{arith}
+use borrow.Author.Tests.{eq-eqb, ne-eqb, eqb-true, lt-ltb}
+use lib.Dec.{eqb, ltb}
+use lib.ListN.{length, getD}
+use Rattle.base.specs.Memory.{part}
+use Rattle.base.proofs.Choice.{pick-true, pick-false, by-test}
+use Rattle.digits.specs.Digits.{allDigits, valueFrom, valueOf}
+use Rattle.digits.proofs.Laws.{digit-range}
+use Rattle.digits.proofs.Steps.{value-more, value-last, ten-more, below-eight}
+use Rattle.splitting.specs.declared.Cut.{Cut}
+use Rattle.splitting.specs.Split.{runClass, runEnd, runLimit, runAt, cutAt, numberRun, cutOf}
+use Rattle.splitting.proofs.Runs.{digit-run, run-here, run-next, run-out, run-low, run-high, run-digits, cut-run}
+
+-- A run of digits
+
+number-end : (s : List ℕ) (at : ℕ) → runClass (getD s at 0) ≡ 1 → numberRun s at (runLimit s at - at) .end ≡ runAt s at
+unfolding numberRun runAt
+number-end s at e = rw e
+
+-- what is left of a run, read behind what was read, says the whole
+pub record Said (s : List ℕ) (at to n i : ℕ) : Type 0 where
+  pub begun : at ≤ i
+  pub within : i ≤ to
+  pub small : n < 10 ^ (i - at)
+  pub ends : runEnd s 1 i (to - i) ≡ runEnd s 1 at (to - at)
+  pub rest : valueFrom n (part s i (runEnd s 1 at (to - at))) ≡ valueOf (part s at (runEnd s 1 at (to - at)))
+
+pub said-nothing : (s : List ℕ) (at to : ℕ) → at ≤ to → Said s at to 0 at
+unfolding valueOf
+said-nothing s at to h =
+    let z : at - at ≡ 0 = omega arith in
+    record { begun = omega arith; within = h; small = rw z (omega arith); ends = refl; rest = refl }
+
+module _ (s : List ℕ) (at to n i : ℕ) (k : Said s at to n i) (h : to ≤ length s) where
+  all : ℕ
+  all = runEnd s 1 at (to - at)
+
+  said : all ≡ i → (let c : Cut = record { end = i; number = n } in c) ≡ numberRun s at (to - at)
+  unfolding all numberRun
+  said e =
+      let c : ℕ → ℕ → Cut = λ x y. record { end = x; number = y } in
+      let v : n ≡ valueOf (part s at all) = value-last s i all n _ (omega arith) (k .rest) in
+      ap (λ (x : ℕ). c x n) (sym e) ∙ ap (c all) v
+
+  pub said-here : i < to → (runClass (getD s i 0) ≡ 1 → ⊥) → (let c : Cut = record { end = i; number = n } in c) ≡ numberRun s at (to - at)
+  unfolding all
+  said-here l f = said (sym (k .ends) ∙ run-here s 1 i to l f)
+
+  pub said-out : to ≤ i → (let c : Cut = record { end = i; number = n } in c) ≡ numberRun s at (to - at)
+  unfolding all
+  said-out l = said (sym (k .ends) ∙ run-out s 1 i to l)
+
+  pub said-small : i < to → to - at ≤ 9 → n < 10 ^ 8
+  said-small l m = let b : at ≤ i = k .begun in below-eight n (i - at) (omega arith) (k .small)
+
+  module _ (l : i < to) (e : runClass (getD s i 0) ≡ 1) where
+    pub said-digit : (48 ≤ getD s i 0) × (getD s i 0 ≤ 57)
+    said-digit = digit-range (getD s i 0) (digit-run (getD s i 0) e)
+
+    pub said-more : Said s at to (10 * n + (getD s i 0 - 48)) (i + 1)
+    unfolding all
+    said-more =
+        let b : at ≤ i = k .begun in
+        let d = said-digit in
+        let j : runEnd s 1 (i + 1) (to - (i + 1)) ≡ all = run-next s 1 i to l e ∙ k .ends in
+        let low : i < all = omega (arith, j, run-low s 1 (to - (i + 1)) (i + 1)) in
+        let high : all ≤ length s = omega (arith, run-high s 1 (to - at) at) in
+        let digits : allDigits (part s i all) ≡ true = ap (λ (x : ℕ). allDigits (part s i x)) (sym (k .ends)) ∙ run-digits s (to - i) i (omega arith) in
+        record {
+          begun = omega arith;
+          within = omega arith;
+          small = ten-more n (getD s i 0 - 48) (i - at) (i + 1 - at) (omega arith) (omega arith) (k .small);
+          ends = j;
+          rest = value-more s i all low high digits n _ (k .rest);
+        }
+
+-- Cuts
+
+end-of : (s : List ℕ) (p at : ℕ) → cutOf s p at .end ≡ cutAt s p at
+unfolding cutOf cutAt
+end-of s p at =
+    let to : Cut → ℕ = λ c. c .end in
+    by-test (ltb at (length s))
+    (λ h. by-test (eqb p 127)
+    (λ e. ap to (pick-true _ _ h ∙ pick-true _ _ e) ∙ sym (pick-true _ _ h ∙ pick-true _ _ e))
+    (λ e. by-test (eqb (runClass (getD s at 0)) 1)
+    (λ k. ap to (pick-true _ _ h ∙ pick-false _ _ e ∙ pick-true _ _ k) ∙ number-end s at (eqb-true _ _ k) ∙ sym (pick-true _ _ h ∙ pick-false _ _ e))
+    (λ k. ap to (pick-true _ _ h ∙ pick-false _ _ e ∙ pick-false _ _ k) ∙ sym (pick-true _ _ h ∙ pick-false _ _ e))))
+    (λ h. ap to (pick-false _ _ h) ∙ sym (pick-false _ _ h))
+
+module _ (s : List ℕ) (p at : ℕ) {c : Cut} (q : c ≡ cutOf s p at) where
+  pub cut-end : c .end ≡ cutAt s p at
+  cut-end = ap (λ (x : Cut). x .end) q ∙ end-of s p at
+
+  -- a number is cut behind what it says
+  pub cut-number : at < length s → (p ≡ 127 → ⊥) → runClass (getD s at 0) ≡ 1 → c .number ≡ valueOf (part s at (cutAt s p at))
+  unfolding cutOf numberRun
+  cut-number h f e =
+      ap (λ (x : Cut). x .number) (q ∙ pick-true _ _ (lt-ltb _ _ h) ∙ pick-false _ _ (ne-eqb _ _ f) ∙ pick-true _ _ (eq-eqb _ _ e))
+      ∙ ap (λ (x : ℕ). valueOf (part s at x)) (number-end s at e ∙ sym (cut-run s at h p f))
