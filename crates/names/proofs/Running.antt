@@ -1,6 +1,6 @@
 -- A run of MATCHes repeated in one go is what its tokens, one by one, make of a name.
 use Prim.Native.Nat.{ℕ, suc, _+_, _-_, _*_, _^_, _≤_, _<_}
-use mathlib.Core.Path.{_≡_, refl, sym, ap, _∙_}
+use mathlib.Core.Path.{_≡_, refl, sym, ap, _∙_, subst}
 use mathlib.Core.Bool.{true, false}
 use mathlib.Core.List.{List}
 use mathlib.Core.Logic.{_⊎_, inl, inr}
@@ -16,7 +16,9 @@ use Rattle.block.specs.Block.{spanOf, cursorOf}
 use Rattle.tokens.proofs.Laws.{bytes-same}
 use Rattle.base.proofs.Below.{take-written}
 use Rattle.kept.specs.Tables.{rowAt}
-use Rattle.kept.proofs.Frame.{alike-written}
+use Rattle.kept.specs.Inside.{RowInside}
+use Rattle.kept.proofs.Frame as frame
+use Rattle.kept.proofs.Frame.{alike-written, row-alike}
 use Rattle.steps.specs.Source.{Source, source, Earlier, earlier, byteIn}
 use Rattle.steps.specs.Sound.{Rows, Below}
 use Rattle.steps.proofs.Laws.{Known, given}
@@ -129,10 +131,12 @@ pub going-reaches : (bytes dir text₀ rows₀ : List ℕ) (first count used row
     → (end : ℕ) → Reaches end (earlier text₀ rows₀ first count) → Reaches end (earlier text rows first count)
 going-reaches bytes dir text₀ rows₀ first count used row n room cur text rows p at g end r = (
   λ h.
-      rows-spelt-same text₀ text rows₀ rows first count used (g .known)
+      let alike : frame.Alike rows₀ rows (first + count) =
+      λ j l. sym (ap (λ (x : List ℕ). getD x j 0) (g .table) ∙ alike-written rows₀ (5 * row) (g .d .rows) (first + count) (omega (arith, room .behind)) (omega (arith, room .table)) j l) in
+      rows-spelt-same text₀ text rows₀ rows first count used
+      (λ j a b. subst (RowInside used) (sym (row-alike rows₀ rows (first + count) alike j b)) (g .known .each j a b))
       (sym (ap (take used) (g .texts) ∙ take-written text₀ used (g .d .text) used (omega arith) (omega (arith, room .bytes))))
-      (λ j l.
-      sym (ap (λ (x : List ℕ). getD x j 0) (g .table) ∙ alike-written rows₀ (5 * row) (g .d .rows) (first + count) (omega (arith, room .behind)) (omega (arith, room .table)) j l))
+      alike
       (r .0 h),
   r .1,
 )

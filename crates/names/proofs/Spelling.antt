@@ -1,5 +1,5 @@
 -- A spelt row stays spelt: of the kept text only what stands below matters to it.
-use Prim.Native.Nat.{ℕ, _+_, _-_}
+use Prim.Native.Nat.{ℕ, _+_, _-_, _≤_, _<_}
 use mathlib.Core.Path.{_≡_, refl, sym, ap, _∙_, subst}
 use mathlib.Core.List.{List}
 use native.Mathlib.Omega.{arith}
@@ -19,7 +19,6 @@ use Rattle.kept.proofs.Frame as frame
 use Rattle.kept.proofs.Frame.{row-alike}
 use Rattle.steps.specs.Source.{earlier}
 use Rattle.steps.specs.Steps.{tokenOf}
-use Rattle.steps.specs.Sound.{Rows}
 use Rattle.steps.proofs.Frame.{token-same}
 use Rattle.names.specs.Keeps.{memory}
 use Rattle.names.specs.Repeats.{Spelt, RowsSpelt}
@@ -49,13 +48,13 @@ module _ (text other : List ℕ) (used : ℕ) (r : Row) (same : take used text �
       }
 
 -- and so are all the rows of a name
-pub rows-spelt-same : (text other rows table : List ℕ) (first count used : ℕ) → Rows used (earlier other table first count) → take used text ≡ take used other → frame.Alike rows table (first + count)
-    → RowsSpelt (earlier text rows first count) → RowsSpelt (earlier other table first count)
+pub rows-spelt-same : (text other rows table : List ℕ) (first count used : ℕ) → ((j : ℕ) → first ≤ j → j < first + count → RowInside used (rowAt rows j))
+    → take used text ≡ take used other → frame.Alike rows table (first + count) → RowsSpelt (earlier text rows first count) → RowsSpelt (earlier other table first count)
 rows-spelt-same text other rows table first count used k same alike s =
     record {
       each =
           λ j a b.
-          spelt-same text other used (rowAt table j) same (k .each j a b) (subst (Spelt text) (row-alike rows table (first + count) alike j b) (s .each j a b));
+          subst (Spelt other) (row-alike rows table (first + count) alike j b) (spelt-same text other used (rowAt rows j) same (k j a b) (s .each j a b));
       laid =
           λ j a b.
           rw (← row-alike rows table (first + count) alike (j + 1) b, ← row-alike rows table (first + count) alike j (omega arith)) (s .laid j a b);

@@ -13,6 +13,7 @@ use lib.Seq.{getD-append-add}
 use Rattle.base.specs.Choice.{pick}
 use Rattle.base.specs.Memory.{part}
 use Rattle.base.proofs.Choice.{pick-true, pick-false, by-test, both-of, both-true, pick-holds}
+use Rattle.base.proofs.Holding.{Holds, holds-left, holds-right, holds-part}
 use Rattle.base.proofs.Memory.{length-part}
 use Rattle.classes.specs.Classes.{allAllowed}
 use Rattle.digits.specs.Digits.{fitsWidth}
@@ -49,23 +50,23 @@ use Rattle.steps.specs.Sound.{Rows}
 use Rattle.names.specs.Names.{Draft, draft, Named, named, refused, grown, ended, printable, onward, nameFrom, nameOf}
 use Rattle.names.specs.Repeats.{Spelt}
 use Rattle.names.proofs.Growing.{never-named, printable-short}
-use Rattle.reading.proofs.Spelling.{Stands, stands-left, stands-right, stands-part, tokenRow, token-spelt}
+use Rattle.reading.proofs.Spelling.{tokenRow, token-spelt}
 
 -- a token that prints as many bytes as its row says; a padded number fits its width
-abbrev Whole : List ℕ → List ℕ → Token → Type 0
+abbrev pub Whole : List ℕ → List ℕ → Token → Type 0
 Whole bytes text (String t) = (t .start ≤ t .end) × (t .end ≤ length (pick (t .kept) text bytes))
 Whole bytes text (Char b) = Unit
 Whole bytes text (Digits n) = Unit
 Whole bytes text (Digits0 p) = fitsWidth (p .number) (p .width) ≡ true
 
-whole-length : (bytes text : List ℕ) (t : Token) → Whole bytes text t → length (bytesOf bytes text t) ≡ lengthOf t
+pub whole-length : (bytes text : List ℕ) (t : Token) → Whole bytes text t → length (bytesOf bytes text t) ≡ lengthOf t
 unfolding bytesOf lengthOf
 whole-length bytes text (String t) w = length-part _ _ _ (w .0) (w .1)
 whole-length bytes text (Char b) w = refl
 whole-length bytes text (Digits n) w = refl
 whole-length bytes text (Digits0 p) w = length-padded (p .number) (p .width)
 
-whole-kind : (bytes text : List ℕ) (t : Token) (at : ℕ) → Whole bytes text t → lengthOf t ≤ 254 → rowKind (tokenRow t at) ≡ true
+pub whole-kind : (bytes text : List ℕ) (t : Token) (at : ℕ) → Whole bytes text t → lengthOf t ≤ 254 → rowKind (tokenRow t at) ≡ true
 unfolding lengthOf rowKind kindOf numberOf widthOf pick
 whole-kind bytes text (String t) at w h = refl
 whole-kind bytes text (Char b) at w h = refl
@@ -78,7 +79,7 @@ Fine s e (step.Got t c) = Whole (s .bytes) (e .text) t
 Fine s e step.End = Unit
 Fine s e (step.Refused n) = Unit
 
-fresh-whole : (bytes text : List ℕ) (a z : ℕ) → a ≤ z → z ≤ length bytes → Whole bytes text (String (record { kept = false; start = a; end = z }))
+pub fresh-whole : (bytes text : List ℕ) (a z : ℕ) → a ≤ z → z ≤ length bytes → Whole bytes text (String (record { kept = false; start = a; end = z }))
 unfolding pick
 fresh-whole bytes text a z h l = (h, l)
 
@@ -135,7 +136,7 @@ module _ (s : Source) (e : Earlier) where
         fresh-whole (s .bytes) (e .text) at z m (omega (arith, o .within (spanOf p 1) (span-below p 1 high (omega arith)))))
         (λ h. tt)
 
-    row-whole : (r : Row) → RowInside used r → Whole (s .bytes) (e .text) (tokenOf (e .text) r)
+    pub row-whole : (r : Row) → RowInside used r → Whole (s .bytes) (e .text) (tokenOf (e .text) r)
     unfolding tokenOf
     row-whole r i =
         let u : used ≤ length (e .text) = rows .room in
@@ -196,7 +197,7 @@ module _ (a : List ℕ) (n : ℕ) (t : Token) (at : ℕ) (fives : length a ≡ 5
 pub record Rowed (used : ℕ) (d : Draft) : Type 0 where
   pub fives : length (d .rows) ≡ 5 * d .count
   pub each : (j : ℕ) → j < d .count → RowInside (used + length (d .text)) (rowAt (d .rows) j)
-  pub spelt : (text : List ℕ) → Stands text used (d .text) → (j : ℕ) → j < d .count → Spelt text (rowAt (d .rows) j)
+  pub spelt : (text : List ℕ) → Holds text used (d .text) → (j : ℕ) → j < d .count → Spelt text (rowAt (d .rows) j)
   pub laid : (j : ℕ) → j + 1 < d .count → rowAt (d .rows) (j + 1) .start ≡ rowAt (d .rows) j .start + rowAt (d .rows) j .length
   pub last : (j : ℕ) → j + 1 ≡ d .count → rowAt (d .rows) j .start + rowAt (d .rows) j .length ≡ used + length (d .text)
 
@@ -231,8 +232,8 @@ module _ (s : Source) (e : Earlier) (used p : ℕ) (t : Token) (c : ℕ) (d : Dr
             ⊎-elim
             (λ q. subst (Spelt text) (sym (new j q))
             (token-spelt (s .bytes) (e .text) text t at
-            (ap (λ (n : ℕ). part text at (at + n)) (sym l) ∙ stands-part text at b (stands-right text used (d .text) b k)) (printable-allowed b (length (d .text)) y)))
-            (λ q. subst (Spelt text) (sym (old j q)) (r .spelt text (stands-left text used (d .text) b k) j q))
+            (ap (λ (n : ℕ). part text at (at + n)) (sym l) ∙ holds-part text at b (holds-right text used (d .text) b k)) (printable-allowed b (length (d .text)) y)))
+            (λ q. subst (Spelt text) (sym (old j q)) (r .spelt text (holds-left text used (d .text) b k) j q))
             (eq-or-lt-of-le {n = j} {m = d .count} (omega arith));
         laid = λ j h.
             ⊎-elim

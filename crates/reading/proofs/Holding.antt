@@ -12,6 +12,7 @@ use lib.ListN.{length, length-append}
 use Rattle.base.specs.Choice.{pick, both}
 use Rattle.base.specs.Memory.{written, part}
 use Rattle.base.proofs.Choice.{by-test, pick-true, pick-false, pick-holds}
+use Rattle.base.proofs.Holding.{holds-written, holds-left}
 use Rattle.base.proofs.Memory.{length-written, length-part}
 use Rattle.spans.specs.declared.Distance.{Distance}
 use Rattle.base.proofs.Below.{take-written}
@@ -35,6 +36,7 @@ use Rattle.names.specs.Names.{Draft, draft, Named, named, refused, nameOf}
 use Rattle.names.specs.Repeats.{Spelt, RowsSpelt}
 use Rattle.names.proofs.Growing.{Grows}
 use Rattle.names.proofs.Frames.{name-bounds, name-open}
+use Rattle.names.proofs.Spelling.{rows-spelt-same}
 use Rattle.reading.specs.declared.Head.{Head}
 use Rattle.reading.specs.declared.Head.the-variants as head
 use Rattle.reading.specs.declared.Answer.{Answer}
@@ -44,7 +46,6 @@ use Rattle.reading.specs.Reads.{Outcome, outcome, plain, atName, roomOf,
 use Rattle.reading.specs.Fits.{AllFit, AllSpelt}
 use Rattle.reading.proofs.Heads.{head-same, head-open, dup-told, diff-told}
 use Rattle.reading.proofs.Entries.{Room, has-room, back-entry}
-use Rattle.reading.proofs.Spelling.{stands-written, stands-left, stay-spelt}
 use Rattle.reading.proofs.Fitting.{Rowed, name-rowed}
 
 -- a read that keeps a name, after m
@@ -75,9 +76,9 @@ old-spelt : (st : State) (text names rows : List ℕ) → Counted (keeping st te
     → RowsSpelt (steps.earlier text rows (x .first) (x .rows))
     → RowsSpelt (steps.earlier (written text (st .text) put) (written rows (5 * st .rows) more) (x .first) (x .rows))
 old-spelt st text names rows k put more x i =
-    stay-spelt text (written text (st .text) put) (st .text) rows (written rows (5 * st .rows) more) (x .first) (x .rows)
+    rows-spelt-same text (written text (st .text) put) rows (written rows (5 * st .rows) more) (x .first) (x .rows) (st .text) (i .each)
     (sym (take-written text (st .text) put (st .text) (omega arith) (k .used)))
-    (λ j l. sym (alike-written rows (5 * st .rows) more (st .rows) (omega arith) (k .rowsUsed) j (omega (arith, i .rows .ends)))) (i .each)
+    (λ j l. sym (alike-written rows (5 * st .rows) more (st .rows) (omega arith) (k .rowsUsed) j (omega (arith, i .rows .ends))))
 
 -- with a name more, whose entry and rows are inside, all are; and where all were spelt and its rows are, all are
 module _ (st : State) (text names rows : List ℕ) (k : Counted (keeping st text names rows)) (size added first many distance : ℕ) (put more : List ℕ)
@@ -147,7 +148,7 @@ module _ (st : State) (text names rows : List ℕ) (k : Counted (keeping st text
       → RowsSpelt (steps.earlier (written text (st .text) (D .text ++ (10 ∷ []))) (written rows (5 * st .rows) (D .rows)) (st .rows) (D .count))
   named-spelt D r =
       let text' = written text (st .text) (D .text ++ (10 ∷ [])) in
-      let t = stands-left text' (st .text) (D .text) (10 ∷ []) (stands-written text (st .text) (D .text ++ (10 ∷ [])) (k .used)) in
+      let t = holds-left text' (st .text) (D .text) (10 ∷ []) (holds-written text (st .text) (D .text ++ (10 ∷ [])) (k .used)) in
       let row : (j i : ℕ) → j ≡ st .rows + i → i < D .count → rowAt (written rows (5 * st .rows) (D .rows)) j ≡ rowAt (D .rows) i =
       λ j i e l. row-written rows (st .rows) (D .rows) j i (k .rowsUsed) e (omega (arith, r .fives)) in
       record {

@@ -1,4 +1,4 @@
--- A token laid into the text and the table is spelt: its row's five numbers are its own, and its text is what it prints. What stands below a place of both is all that rows there depend on.
+-- A token laid into the text and the table is spelt: its row's five numbers are its own, and its text is what it prints.
 use Prim.Native.Nat.{ℕ, _+_, _-_, _≤_, _<_}
 use mathlib.Core.Path.{_≡_, refl, sym, ap, _∙_, subst}
 use mathlib.Core.Bool.{true}
@@ -22,34 +22,6 @@ use Rattle.steps.specs.Source.{earlier}
 use Rattle.steps.specs.Steps.{tokenOf}
 use Rattle.names.specs.Repeats.{Spelt, RowsSpelt}
 use Rattle.names.proofs.Spelling.{spelt-same}
-
--- a list stands in memory from a place on
-pub record Stands (m : List ℕ) (at : ℕ) (s : List ℕ) : Type 0 where
-  pub rest : List ℕ
-  pub begins : drop at m ≡ s ++ rest
-
-pub stands-written : (d : List ℕ) (at : ℕ) (s : List ℕ) → at ≤ length d → Stands (written d at s) at s
-unfolding written
-stands-written d at s h = record {
-  rest = drop (at + length s) d;
-  begins = ap (drop at) (append-assoc (take at d) s (drop (at + length s) d)) ∙ drop-at (take at d) (s ++ drop (at + length s) d) at (length-take-le at d h);
-}
-
-module _ (m : List ℕ) (at : ℕ) where
-  pub stands-left : (a b : List ℕ) → Stands m at (a ++ b) → Stands m at a
-  stands-left a b h = record { rest = b ++ h .rest; begins = h .begins ∙ append-assoc a b (h .rest) }
-
-  pub stands-right : (a b : List ℕ) → Stands m at (a ++ b) → Stands m (at + length a) b
-  stands-right a b h = record {
-    rest = h .rest;
-    begins = sym (drop-drop (length a) at m) ∙ ap (drop (length a)) (h .begins ∙ append-assoc a b (h .rest)) ∙ drop-at a (b ++ h .rest) (length a) refl;
-  }
-
-  pub stands-part : (s : List ℕ) → Stands m at s → part m at (at + length s) ≡ s
-  unfolding part
-  stands-part s h =
-      let n : at + length s - at ≡ length s = omega arith in
-      ap (λ k. take k (drop at m)) n ∙ ap (take (length s)) (h .begins) ∙ take-at s (h .rest) (length s) refl
 
 -- the row of a token
 abbrev pub tokenRow : Token → ℕ → Row
@@ -93,15 +65,3 @@ token-spelt bytes kept text (Digits0 p) at e a = record {
   prints = λ b. sym e;
   allowed = ap allAllowed e ∙ a;
 }
-
--- the rows of a name stay spelt where the text and the table are the same below
-pub stay-spelt : (text other : List ℕ) (used : ℕ) (rows table : List ℕ) (first count : ℕ) → take used text ≡ take used other → Alike rows table (first + count)
-    → ((j : ℕ) → first ≤ j → j < first + count → RowInside used (rowAt rows j))
-    → RowsSpelt (earlier text rows first count) → RowsSpelt (earlier other table first count)
-stay-spelt text other used rows table first count same alike inside s =
-    let row = row-alike rows table (first + count) alike in
-    record {
-      each = λ j a b. subst (Spelt other) (row j b) (spelt-same text other used (rowAt rows j) same (inside j a b) (s .each j a b));
-      laid = λ j a b.
-          ap (λ (r : Row). r .start) (sym (row (j + 1) b)) ∙ s .laid j a b ∙ ap (λ (r : Row). r .start + r .length) (row j (omega arith));
-    }

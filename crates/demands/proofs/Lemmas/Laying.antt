@@ -18,7 +18,9 @@ use Rattle.kept.proofs.Laws.{kind-inside}
 use Rattle.kept.proofs.Frame.{row-holds}
 use Rattle.demands.specs.Printing.{rowText, rowPrints, rowsPrint}
 use Rattle.demands.specs.Right.{RowRight}
-use Rattle.demands.proofs.Lemmas.Spelling.{tokenRow, Fit, Fits, spell, rowsFrom}
+use Rattle.reading.proofs.Spelling.{tokenRow}
+use Rattle.reading.proofs.Fitting.{Whole, whole-length, whole-kind}
+use Rattle.demands.proofs.Lemmas.Spelling.{Fits, spell, rowsFrom}
 
 -- a token whose row's text is what it prints: the row prints it too
 row-prints : (bytes kept text : List ℕ) (t : Token) (at : ℕ) → rowText text (tokenRow t at) ≡ bytesOf bytes kept t → rowPrints text (tokenRow t at) ≡ bytesOf bytes kept t
@@ -35,22 +37,22 @@ token-row rows i t at h = row-holds rows i (kindOf t) (numberOf t) (widthOf t) a
 
 module _ (bytes kept text rows : List ℕ) (used : ℕ) where
   -- the text of a token that stands in the buffer
-  text-holds : (t : Token) (at : ℕ) → Fit bytes kept t → Holds text at (bytesOf bytes kept t) → rowText text (tokenRow t at) ≡ bytesOf bytes kept t
+  text-holds : (t : Token) (at : ℕ) → Whole bytes kept t → Holds text at (bytesOf bytes kept t) → rowText text (tokenRow t at) ≡ bytesOf bytes kept t
   unfolding rowText
-  text-holds t at f h = ap (λ n. part text at (at + n)) (sym (f .lengths)) ∙ holds-part text at (bytesOf bytes kept t) h
+  text-holds t at f h = ap (λ n. part text at (at + n)) (sym (whole-length bytes kept t f)) ∙ holds-part text at (bytesOf bytes kept t) h
 
-  row-right : (t : Token) (at i : ℕ) → Fit bytes kept t → lengthOf t ≤ 254 → Holds text at (bytesOf bytes kept t) → Holds rows (5 * i) (rowOf t at)
+  row-right : (t : Token) (at i : ℕ) → Whole bytes kept t → lengthOf t ≤ 254 → Holds text at (bytesOf bytes kept t) → Holds rows (5 * i) (rowOf t at)
       → at + lengthOf t ≤ used → RowRight used text rows i
   row-right t at i f l h g k =
       let e : rowText text (tokenRow t at) ≡ bytesOf bytes kept t = text-holds t at f h in
       let p : rowPrints text (tokenRow t at) ≡ rowText text (tokenRow t at) = row-prints bytes kept text t at e ∙ sym e in
       let r : rowAt rows i ≡ tokenRow t at = token-row rows i t at g in
       record {
-        fits = rw r (record { ends = k; kind = kind-inside (tokenRow t at) (f .kind l at) });
+        fits = rw r (record { ends = k; kind = kind-inside (tokenRow t at) (whole-kind bytes kept t at f l) });
         prints = subst (λ (z : Row). rowPrints text z ≡ rowText text z) (sym r) p;
       }
 
-  row-gives : (t : Token) (at i : ℕ) → Fit bytes kept t → Holds text at (bytesOf bytes kept t) → Holds rows (5 * i) (rowOf t at)
+  row-gives : (t : Token) (at i : ℕ) → Whole bytes kept t → Holds text at (bytesOf bytes kept t) → Holds rows (5 * i) (rowOf t at)
       → rowPrints text (rowAt rows i) ≡ bytesOf bytes kept t
   row-gives t at i f h g = ap (rowPrints text) (token-row rows i t at g) ∙ row-prints bytes kept text t at (text-holds t at f h)
 
@@ -67,7 +69,7 @@ module _ (bytes kept text rows : List ℕ) (used : ℕ) where
   laid [] at i f h g k = record { right = λ j a b. absurd (omega arith); within = λ j a b. absurd (omega arith); prints = refl }
   laid (t ∷ ts) at i f h g k =
       let b : List ℕ = bytesOf bytes kept t in
-      let n : length b ≡ lengthOf t = f .0 .0 .lengths in
+      let n : length b ≡ lengthOf t = whole-length bytes kept t (f .0 .0) in
       let m : length (b ++ spell bytes kept ts) ≡ length b + length (spell bytes kept ts) = length-append b (spell bytes kept ts) in
       let hb : Holds text at b = holds-left text at b (spell bytes kept ts) h in
       let gb : Holds rows (5 * i) (rowOf t at) = holds-left rows (5 * i) (rowOf t at) (rowsFrom ts (at + lengthOf t)) g in

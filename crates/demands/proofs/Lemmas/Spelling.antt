@@ -28,65 +28,23 @@ use Rattle.steps.specs.Source.{Source, Earlier}
 use Rattle.steps.specs.Sound.{Rows}
 use Rattle.steps.specs.Steps.{tokenOf, hasRow, rowHere}
 use Rattle.names.specs.Names.{Draft, grown, ended, printable}
+use Rattle.names.proofs.Growing.{printable-short}
+use Rattle.reading.proofs.Fitting.{Whole, whole-length, fresh-whole, row-whole}
 use Rattle.demands.proofs.Lemmas.Moves.{text-on}
 use Rattle.demands.proofs.Lemmas.Traces.{Value, string, char, digits, digits0, delta, delta0, match, Trace, last, then}
 
--- the row of a token
-abbrev pub tokenRow : Token → ℕ → Row
-tokenRow t at = record { kind = kindOf t; number = numberOf t; width = widthOf t; start = at; length = lengthOf t }
-
--- a token whose row is sound: its length is what it prints, its kind is in order
-pub record Fit (bytes text : List ℕ) (t : Token) : Type 0 where
-  pub lengths : length (bytesOf bytes text t) ≡ lengthOf t
-  pub kind : lengthOf t ≤ 254 → (at : ℕ) → rowKind (tokenRow t at) ≡ true
-
-module _ (bytes text : List ℕ) where
-  string-fit : (k : Bool) (from to : ℕ) → from ≤ to → to ≤ length (pick k text bytes) → Fit bytes text (String (record { kept = k; start = from; end = to }))
-  unfolding bytesOf lengthOf rowKind kindOf pick
-  string-fit k from to g h = record { lengths = length-part (pick k text bytes) from to g h; kind = λ l at. refl }
-
-  char-fit : (b : ℕ) → Fit bytes text (Char b)
-  unfolding bytesOf lengthOf rowKind kindOf pick
-  char-fit b = record { lengths = refl; kind = λ l at. refl }
-
-  digits-fit : (n : ℕ) → Fit bytes text (Digits n)
-  unfolding bytesOf lengthOf rowKind kindOf pick
-  digits-fit n = record { lengths = refl; kind = λ l at. refl }
-
-  padded-fit : (n w : ℕ) → fitsWidth n w ≡ true → Fit bytes text (Digits0 (record { number = n; width = w }))
-  unfolding bytesOf lengthOf rowKind kindOf numberOf widthOf pick
-  padded-fit n w f = record { lengths = length-padded n w; kind = λ l at. both-of (le-leb w 254 l) f }
-
-  -- texts in the block's bytes, and in the kept text
-  read-fit : (from to : ℕ) → from ≤ to → to ≤ length bytes → Fit bytes text (String (record { kept = false; start = from; end = to }))
-  unfolding pick
-  read-fit from to g h = string-fit false from to g h
-
-  kept-fit : (from to : ℕ) → from ≤ to → to ≤ length text → Fit bytes text (String (record { kept = true; start = from; end = to }))
-  unfolding pick
-  kept-fit from to g h = string-fit true from to g h
-
-  -- MATCH of a row that is in order
-  match-fit : (used : ℕ) (r : Row) → used ≤ length text → RowInside used r → Fit bytes text (tokenOf text r)
-  unfolding tokenOf
-  match-fit used r k f =
-      pick-holds (Fit bytes text) (eqb (r .kind) 1) _ _ (λ a. kept-fit (r .start) (r .start + r .length) (omega arith) (omega (arith, f .ends)))
-      (λ a. pick-holds (Fit bytes text) (eqb (r .kind) 2) _ _ (λ b. char-fit _)
-      (λ b. pick-holds (Fit bytes text) (eqb (r .kind) 4) _ _ (λ c. padded-fit _ _ (f .kind .number (eqb-true _ _ c)))
-      (λ c. digits-fit _)))
-
 module _ (s : Source) (e : Earlier) (used : ℕ) (opened : Open (s .bytes) (s .dir) (s .cur)) (rows : Rows used e) where
-  pub value-fit : (p : ℕ) → 1 ≤ p → p ≤ 128 → (y : TokenType) (t : Token) (c : Cursor) → Value s e p y t c → Fit (s .bytes) (e .text) t
+  pub value-whole : (p : ℕ) → 1 ≤ p → p ≤ 128 → (y : TokenType) (t : Token) (c : Cursor) → Value s e p y t c → Whole (s .bytes) (e .text) t
   unfolding hasRow rowHere spanOf
-  value-fit p a l y t c (string h) =
-      read-fit (s .bytes) (e .text) _ _ (text-on s p) (omega (arith, opened .within (10 * p + 1) (omega arith)))
-  value-fit p a l y t c (char b h) = char-fit _ _ b
-  value-fit p a l y t c (digits n h) = digits-fit _ _ n
-  value-fit p a l y t c (digits0 n w h g f) = padded-fit _ _ n w f
-  value-fit p a l y t c (delta n h) = digits-fit _ _ n
-  value-fit p a l y t c (delta0 n w h f) = padded-fit _ _ n w f
-  value-fit p a l y t c (match b h) =
-      match-fit (s .bytes) (e .text) used (rowHere e p) (rows .room) (rows .each (e .first + (p - 1)) (omega arith) (omega (arith, leb-true p (e .count) h)))
+  value-whole p a l y t c (string h) =
+      fresh-whole (s .bytes) (e .text) _ _ (text-on s p) (omega (arith, opened .within (10 * p + 1) (omega arith)))
+  value-whole p a l y t c (char b h) = tt
+  value-whole p a l y t c (digits n h) = tt
+  value-whole p a l y t c (digits0 n w h g f) = f
+  value-whole p a l y t c (delta n h) = tt
+  value-whole p a l y t c (delta0 n w h f) = f
+  value-whole p a l y t c (match b h) =
+      row-whole s e used p opened rows a l (rowHere e p) (rows .each (e .first + (p - 1)) (omega arith) (omega (arith, leb-true p (e .count) h)))
 
 -- what tokens print end to end, and their rows, the first token's text at a place
 unfoldable pub spell : List ℕ → List ℕ → List Token → List ℕ
@@ -106,7 +64,7 @@ some-token bytes text (t ∷ ts) h = omega arith
 -- tokens all of which are in order and short enough
 abbrev pub Fits : List ℕ → List ℕ → List Token → Type 0
 Fits bytes text [] = Unit
-Fits bytes text (t ∷ ts) = (Fit bytes text t × (lengthOf t ≤ 254)) × Fits bytes text ts
+Fits bytes text (t ∷ ts) = (Whole bytes text t × (lengthOf t ≤ 254)) × Fits bytes text ts
 
 -- from the name so far to the whole name
 pub record Spelled (s : Source) (e : Earlier) (used p : ℕ) (d x : Draft) : Type 0 where
@@ -118,10 +76,6 @@ pub record Spelled (s : Source) (e : Earlier) (used p : ℕ) (d x : Draft) : Typ
   pub places : p + length tokens ≤ 128
   pub some : 1 ≤ length (x .text)
   pub limit : length (x .text) ≤ 254
-
-print-limit : (bytes : List ℕ) (n : ℕ) → printable bytes n ≡ true → n + length bytes ≤ 254
-unfolding printable
-print-limit bytes n e = leb-true _ _ (both-true (allAllowed bytes) (leb (n + length bytes) 254) e .1)
 
 module _ (s : Source) (e : Earlier) (used : ℕ) (opened : Open (s .bytes) (s .dir) (s .cur)) (rows : Rows used e) where
   pub spelled : (p : ℕ) (d x : Draft) → Trace s e used p d x → 1 ≤ p → length (d .text) ≤ 254 → Spelled s e used p d x
@@ -137,18 +91,19 @@ module _ (s : Source) (e : Earlier) (used : ℕ) (opened : Open (s .bytes) (s .d
     limit = k;
   }
   spelled p d x (then q z w y t c l h r v f rest) a k =
-      let fit : Fit (s .bytes) (e .text) t = value-fit s e used opened rows p a (omega arith) y t c v in
+      let whole : Whole (s .bytes) (e .text) t = value-whole s e used opened rows p a (omega arith) y t c v in
+      let wide : length (bytesOf (s .bytes) (e .text) t) ≡ lengthOf t = whole-length (s .bytes) (e .text) t whole in
       let g : Draft = grown s e used p t (c .0) d in
       let b : List ℕ = bytesOf (s .bytes) (e .text) t in
-      let long : length (d .text) + length b ≤ 254 = print-limit b (length (d .text)) f in
+      let long : length (d .text) + length b ≤ 254 = printable-short b (length (d .text)) f in
       let more : length (d .text ++ b) ≡ length (d .text) + length b = length-append (d .text) b in
       let i : Spelled s e used (p + 1) g x = spelled (p + 1) g x rest (omega arith) (omega arith) in
       record {
         tokens = t ∷ i .tokens;
-        fits = ((fit, omega (arith, fit .lengths)), i .fits);
+        fits = ((whole, omega (arith, wide)), i .fits);
         text = i .text ∙ append-assoc (d .text) b (spell (s .bytes) (e .text) (i .tokens));
         rows = i .rows ∙ append-assoc (d .rows) (rowOf t (used + length (d .text))) _
-            ∙ ap (λ n. d .rows ++ (rowOf t (used + length (d .text)) ++ rowsFrom (i .tokens) n)) (omega (arith, fit .lengths));
+            ∙ ap (λ n. d .rows ++ (rowOf t (used + length (d .text)) ++ rowsFrom (i .tokens) n)) (omega (arith, wide));
         count = i .count ∙ omega arith;
         places = omega (arith, i .places);
         some = i .some;
