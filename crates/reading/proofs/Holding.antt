@@ -1,20 +1,18 @@
 -- What a read needs holds again after it: the block is open, the counts are judged, what every kept name points to is inside, and its rows are spelt. A read that keeps a name adds one.
-use Prim.Native.Nat.{ℕ, zero, suc, _+_, _-_, _*_, _^_, _≤_, _<_}
+use Prim.Native.Nat.{ℕ, _+_, _-_, _*_, _≤_, _<_}
 use mathlib.Core.Path.{_≡_, refl, sym, ap, _∙_, subst}
-use mathlib.Core.Bool.{Bool, true, false}
+use mathlib.Core.Bool.{true}
 use mathlib.Core.List.{List, [], _∷_, _++_}
 use mathlib.Core.Logic.{⊎-elim}
 use native.Mathlib.Omega.{arith}
 use native.Mathlib.Nat.{eq-or-lt-of-le}
-use borrow.Author.Tests.{leb-true, eqb-true, eqb-false}
-use lib.Dec.{leb, eqb}
+use borrow.Author.Tests.{eqb-true, eqb-false}
+use lib.Dec.{eqb}
 use lib.ListN.{length, length-append}
-use Rattle.base.specs.Choice.{pick, both}
 use Rattle.base.specs.Memory.{written, part}
-use Rattle.base.proofs.Choice.{by-test, pick-true, pick-false, pick-holds}
+use Rattle.base.proofs.Choice.{pick-true, pick-holds}
 use Rattle.base.proofs.Holding.{holds-written, holds-left}
 use Rattle.base.proofs.Memory.{length-written, length-part}
-use Rattle.spans.specs.declared.Distance.{Distance}
 use Rattle.base.proofs.Below.{take-written}
 use Rattle.block.specs.declared.State.{State}
 use Rattle.block.specs.declared.Refusal.{Refusal}
@@ -23,29 +21,27 @@ use Rattle.block.specs.Open.{Open}
 use Rattle.block.proofs.Laws.{open-sound, open-inside}
 use Rattle.kept.specs.declared.Entry.{Entry}
 use Rattle.kept.specs.declared.Row.{Row}
-use Rattle.kept.specs.Tables.{Kept, keeping, room, entryAt, rowAt}
+use Rattle.kept.specs.Tables.{Kept, keeping, entryAt, rowAt}
 use Rattle.kept.specs.Judgement.{counts, earlierFits}
 use Rattle.kept.specs.Inside.{Counted, EntryInside, RowInside}
 use Rattle.kept.proofs.Laws.{earlier, earlier-fits-of, counts-of, row-more}
 use Rattle.kept.proofs.Frame.{Alike, alike-written, entry-alike, entry-written, row-written, one-entry, entry-more, earlier-more}
-use Rattle.steps.specs.Source.{Source, source, Earlier}
+use Rattle.steps.specs.Source.{source, Earlier}
 use Rattle.steps.specs.Source as steps
 use Rattle.steps.specs.Sound.{Rows}
 use Rattle.steps.proofs.Laws.{rows-none, rows-judged}
 use Rattle.names.specs.Names.{Draft, draft, Named, named, refused, nameOf}
 use Rattle.names.specs.Repeats.{Spelt, RowsSpelt}
-use Rattle.names.proofs.Growing.{Grows}
 use Rattle.names.proofs.Frames.{name-bounds, name-open}
 use Rattle.names.proofs.Spelling.{rows-spelt-same}
 use Rattle.reading.specs.declared.Head.{Head}
 use Rattle.reading.specs.declared.Head.the-variants as head
-use Rattle.reading.specs.declared.Answer.{Answer}
 use Rattle.reading.specs.declared.Answer.the-variants as answer
 use Rattle.reading.specs.Heads.{Headed}
-use Rattle.reading.specs.Reads.{Outcome, outcome, plain, atName, roomOf, roomFor, entryOf, stateAfter, kept, keepOf, headPast, dupOf, namedOf, diffOf, none, rowsOf, entryBack, dupJudged, diffJudged, headedOf, headOf, nextOf, readOf}
+use Rattle.reading.specs.Reads.{Outcome, outcome, plain, atName, roomFor, entryOf, stateAfter, kept, keepOf, headPast, dupOf, namedOf, diffOf, none, rowsOf, entryBack, dupJudged, diffJudged, headedOf, headOf, nextOf, readOf}
 use Rattle.reading.specs.Fits.{AllFit, AllSpelt}
 use Rattle.reading.proofs.Heads.{head-same, head-open, dup-told, diff-told}
-use Rattle.reading.proofs.Entries.{Room, has-room, back-entry}
+use Rattle.reading.proofs.Entries.{has-room, back-entry}
 use Rattle.reading.proofs.Fitting.{Rowed, name-rowed}
 
 -- a read that keeps a name, after m

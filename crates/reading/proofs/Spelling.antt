@@ -1,27 +1,21 @@
 -- A token laid into the text and the table is spelt: its row's five numbers are its own, and its text is what it prints.
-use Prim.Native.Nat.{ℕ, _+_, _-_, _≤_, _<_}
-use mathlib.Core.Path.{_≡_, refl, sym, ap, _∙_, subst}
+use Prim.Native.Nat.{ℕ, _+_, _-_}
+use mathlib.Core.Path.{_≡_, refl, sym, ap, _∙_}
 use mathlib.Core.Bool.{true}
-use mathlib.Core.List.{List, [], _∷_, _++_, append-assoc}
+use mathlib.Core.List.{List, [], _∷_}
 use native.Mathlib.Omega.{arith}
 use native.Mathlib.Nat.{add-zero}
-use lib.ListN.{length, take, drop, getD}
-use lib.Seq.{length-take-le, drop-at, take-at, drop-drop}
+use lib.ListN.{length, getD}
 use Rattle.base.specs.Choice.{pick}
-use Rattle.base.specs.Memory.{written, part}
+use Rattle.base.specs.Memory.{part}
 use Rattle.base.proofs.Memory.{getD-part}
 use Rattle.classes.specs.Classes.{allAllowed}
 use Rattle.tokens.specs.declared.Token.{Token}
 use Rattle.tokens.specs.declared.Token.the-variants.{String, Char, Digits, Digits0}
 use Rattle.tokens.specs.Tokens.{bytesOf, kindOf, numberOf, widthOf, lengthOf}
 use Rattle.kept.specs.declared.Row.{Row}
-use Rattle.kept.specs.Tables.{rowAt}
-use Rattle.kept.specs.Inside.{RowInside}
-use Rattle.kept.proofs.Frame.{Alike, row-alike}
-use Rattle.steps.specs.Source.{earlier}
 use Rattle.steps.specs.Steps.{tokenOf}
-use Rattle.names.specs.Repeats.{Spelt, RowsSpelt}
-use Rattle.names.proofs.Spelling.{spelt-same}
+use Rattle.names.specs.Repeats.{Spelt}
 
 -- the row of a token
 abbrev pub tokenRow : Token → ℕ → Row

@@ -1,33 +1,21 @@
 -- A name is its tokens: its text is what they print, and its rows are theirs.
 use Prim.Native.Nat.{ℕ, _+_, _-_, _*_, _≤_}
-use mathlib.Core.Path.{_≡_, refl, sym, ap, _∙_}
-use mathlib.Core.Bool.{Bool, true, false}
+use mathlib.Core.Path.{_≡_, sym, ap, _∙_}
 use mathlib.Core.List.{List, [], _∷_, _++_, append-assoc, append-nil}
 use native.Mathlib.Omega.{arith}
 use native.Mathlib.Nat.{add-zero}
-use borrow.Author.Tests.{leb-true, le-leb, eqb-true}
-use lib.Dec.{leb, eqb}
+use borrow.Author.Tests.{leb-true}
 use lib.ListN.{length, length-append}
-use Rattle.base.specs.Choice.{pick}
-use Rattle.base.proofs.Choice.{both-true, both-of, pick-holds}
-use Rattle.base.proofs.Memory.{length-part}
-use Rattle.digits.specs.Digits.{fitsWidth}
-use Rattle.digits.proofs.Laws.{length-padded}
-use Rattle.classes.specs.Classes.{allAllowed}
 use Rattle.spans.specs.declared.Cursor.{Cursor}
 use Rattle.block.specs.Block.{spanOf}
 use Rattle.block.specs.Open.{Open}
 use Rattle.tokens.specs.declared.TokenType.{TokenType}
 use Rattle.tokens.specs.declared.Token.{Token}
-use Rattle.tokens.specs.declared.Token.the-variants.{String, Char, Digits, Digits0}
-use Rattle.tokens.specs.Tokens.{bytesOf, kindOf, numberOf, widthOf, lengthOf, rowOf}
-use Rattle.kept.specs.declared.Row.{Row}
-use Rattle.kept.specs.Judgement.{rowKind}
-use Rattle.kept.specs.Inside.{RowInside}
+use Rattle.tokens.specs.Tokens.{bytesOf, lengthOf, rowOf}
 use Rattle.steps.specs.Source.{Source, Earlier}
 use Rattle.steps.specs.Sound.{Rows}
-use Rattle.steps.specs.Steps.{tokenOf, hasRow, rowHere}
-use Rattle.names.specs.Names.{Draft, grown, ended, printable}
+use Rattle.steps.specs.Steps.{hasRow, rowHere}
+use Rattle.names.specs.Names.{Draft, grown, ended}
 use Rattle.names.proofs.Growing.{printable-short}
 use Rattle.reading.proofs.Fitting.{Whole, whole-length, fresh-whole, row-whole}
 use Rattle.demands.proofs.Lemmas.Moves.{text-on}
