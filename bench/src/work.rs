@@ -1,9 +1,9 @@
 //! The memory for one set of names, and each thing that is measured over it.
 
 use second::calls::{Calls, Second};
-use second::claim::KeptText;
-use second::directory::{Block, DIRECTORY, MOST_ROWS, SPANS};
-use second::kept::{Tables, FIVE};
+use second::cases::script::Packed;
+use second::kept::FIVE;
+use second::memory::{self, Memory, Room};
 use second::refusal::{unpack, DONE};
 
 /// What is measured, each once for every name.
@@ -26,25 +26,11 @@ pub struct Work {
     pub input: Vec<u8>,
     pub count: u32,
     names: Vec<(usize, usize)>,
-    bytes: Vec<u8>,
-    directory: Vec<u32>,
-    kept: Kept,
-    written: Written,
-}
-
-struct Kept {
-    cursors: Vec<u32>,
-    text: Vec<u8>,
-    names: Vec<u32>,
-    rows: Vec<u32>,
-    state: [u32; 4],
-}
-
-/// Writing goes here and not into the block that is read.
-struct Written {
-    bytes: Vec<u8>,
-    directory: Vec<u32>,
-    totals: [u32; 2],
+    /// The block, and what reading it keeps.
+    block: Memory,
+    /// Writing goes here and not into the block that is read.
+    written: Memory,
+    writing: memory::Call,
 }
 
 /// A step with which claims go through the names out of order; it is prime.
@@ -52,23 +38,26 @@ const STRIDE: u32 = 40_961;
 
 impl Work {
     pub fn new(input: Vec<u8>) -> Work {
-        let names = places(&input);
-        let count = names.len();
-        let mut written = Written {
-            bytes: vec![0; 6 * input.len()],
-            directory: vec![0; DIRECTORY],
-            totals: [0; 2],
+        let writing = memory::Call::Write {
+            input: input.clone(),
         };
-        written.write(&Second, &input);
+        let mut written = Memory::to_write(6 * input.len(), 0);
+        written.run(&Second, &writing);
+        let [count, total] = written.total_numbers();
+        let block = Packed {
+            bytes: written.bytes.get()[..total as usize].to_vec(),
+            directory: written.directory.get().to_vec(),
+            count,
+        };
         let mut work = Work {
-            count: count as u32,
-            bytes: written.bytes[..written.totals[1] as usize].to_vec(),
-            directory: written.directory.clone(),
-            kept: Kept::new(count, input.len()),
-            names,
+            block: Memory::new(&block, room(&input, count as usize)),
+            names: places(&input),
             input,
+            count,
             written,
+            writing,
         };
+        // Claims and growth look at what is kept.
         work.run(&Second, Call::WholeBlock);
         work
     }
@@ -78,42 +67,26 @@ impl Work {
             Call::WholeBlock => self.read_block(calls),
             Call::SingleReads => self.single_reads(calls),
             Call::Claims => self.claims(calls),
-            Call::Writing => self.written.write(calls, &self.input),
+            Call::Writing => self.write(calls),
         }
     }
 
     fn read_block(&mut self, calls: &dyn Calls) {
         let count = self.count;
-        let (block, cursors, tables) = self.lent();
-        let answer = calls.read_block(block, count, cursors, tables);
+        let answer = self.block.run(calls, &memory::Call::ReadBlock { count });
         assert_eq!(unpack(answer), (DONE, count));
     }
 
     fn single_reads(&mut self, calls: &dyn Calls) {
-        self.open(calls);
-        while self.read(calls) == 0 {}
-        assert_eq!(self.kept.state[1], self.count);
-    }
-
-    fn open(&mut self, calls: &dyn Calls) {
-        let count = self.count;
-        let (block, cursors, tables) = self.lent();
-        let answer = calls.open(block, count, cursors, tables.state);
-        assert_eq!(unpack(answer), (0, 0));
-    }
-
-    /// The code of one read.
-    fn read(&mut self, calls: &dyn Calls) -> u32 {
-        let (block, cursors, tables) = self.lent();
-        unpack(calls.read(block, cursors, tables)).0
+        let (block, cursors, mut tables) = self.block.to_read();
+        let opened = calls.open(block, self.count, cursors, tables.state);
+        assert_eq!(unpack(opened), (0, 0));
+        while unpack(calls.read(block, cursors, tables.lend())).0 == 0 {}
+        assert_eq!(tables.state[1], self.count);
     }
 
     fn claims(&self, calls: &dyn Calls) {
-        let kept = KeptText {
-            text: &self.kept.text,
-            names: &self.kept.names,
-            state: &self.kept.state,
-        };
+        let kept = self.block.to_claim();
         for turn in 0..self.count {
             let number = turn.wrapping_mul(STRIDE) % self.count;
             let (start, end) = self.names[number as usize];
@@ -122,48 +95,29 @@ impl Work {
         }
     }
 
-    fn lent(&mut self) -> (Block<'_>, &mut [u32], Tables<'_>) {
-        let block = Block {
-            bytes: &self.bytes,
-            directory: &self.directory,
-        };
-        let tables = Tables {
-            text: &mut self.kept.text,
-            names: &mut self.kept.names,
-            rows: &mut self.kept.rows,
-            state: &mut self.kept.state,
-        };
-        (block, &mut self.kept.cursors, tables)
+    fn write(&mut self, calls: &dyn Calls) {
+        let answer = self.written.run(calls, &self.writing);
+        assert_eq!(unpack(answer), (0, self.written.total_numbers()[1]));
     }
 
     /// What a single read judges: the bytes' length, the directory and the cursors.
     pub fn tables(&self) -> (usize, &[u32], &[u32]) {
-        (self.bytes.len(), &self.directory, &self.kept.cursors)
+        let block = &self.block;
+        let bytes = block.bytes.get().len();
+        (bytes, block.directory.get(), block.cursors.get())
     }
 
     pub fn tokens(&self) -> u32 {
-        self.kept.state[3]
+        self.block.state_numbers()[3]
     }
 }
 
-impl Kept {
-    /// Rows for any names; what isn't used of a zeroed table costs no memory.
-    fn new(count: usize, text: usize) -> Kept {
-        Kept {
-            cursors: vec![0; SPANS],
-            text: vec![0; text],
-            names: vec![0; FIVE * count],
-            rows: vec![0; FIVE * MOST_ROWS as usize * count],
-            state: [0; 4],
-        }
-    }
-}
-
-impl Written {
-    fn write(&mut self, calls: &dyn Calls, input: &[u8]) {
-        let (directory, bytes) = (&mut self.directory, &mut self.bytes);
-        let answer = calls.write(input, directory, bytes, &mut self.totals);
-        assert_eq!(unpack(answer), (0, self.totals[1]));
+/// Just the text and the entries; a row for every byte, since each token prints one at least.
+fn room(input: &[u8], count: usize) -> Room {
+    Room {
+        text: input.len(),
+        names: FIVE * count,
+        rows: FIVE * (input.len() - count),
     }
 }
 

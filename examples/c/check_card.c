@@ -37,7 +37,7 @@ struct report {
 /* A refusal goes out with its number, its words and, where it carries one, the name's number. */
 static int refused(const char *call, uint64_t answer) {
     printf("%s: refused %u", call, (unsigned)AQ_CODE(answer));
-    if (AQ_VALUE(answer) != AQ_NO_NAME)
+    if (AQ_CODE(answer) == 11 || AQ_VALUE(answer) != AQ_NO_NAME)
         printf(" at %u", (unsigned)AQ_VALUE(answer));
     printf(", %s\n", aq_refusal(AQ_CODE(answer)));
     return 1;
@@ -60,7 +60,7 @@ static int open_block(void) {
 static int read_names(uint32_t most) {
     while (most-- > 0) {
         uint64_t answer = aq_read(bytes, totals[1], directory, AQ_DIRECTORY, cursors, AQ_CURSORS, text, sizeof text,
-                                  names, COUNT * 5, rows, COUNT * AQ_MOST_ROWS * 5, state);
+                                  names, AQ_NAMES_FOR(COUNT), rows, AQ_ROWS_FOR(COUNT), state);
         if (AQ_CODE(answer) == AQ_DONE)
             break;
         if (AQ_CODE(answer) != 0)
@@ -78,7 +78,7 @@ static void show_name(uint32_t number) {
 
 static void check(const struct report *report) {
     uint64_t answer = aq_claim(report->number, (const uint8_t *)report->name, strlen(report->name), text, sizeof text,
-                               names, COUNT * 5, state);
+                               names, AQ_NAMES_FOR(COUNT), state);
     if (AQ_CODE(answer) != 0) {
         refused(report->about, answer);
         return;

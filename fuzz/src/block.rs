@@ -3,23 +3,10 @@
 
 use crate::input::Input;
 use second::cases::script::{Packed, Script};
-use second::directory::{Stream, LAST_POSITION, POSITIONS};
+use second::directory::{Stream, LAST_POSITION, POSITIONS, STREAMS};
 
 /// Names of a block at most, to keep the tables small.
 pub const MOST_NAMES: u32 = 20;
-
-const STREAMS: [Stream; 10] = [
-    Stream::Type,
-    Stream::String,
-    Stream::Char,
-    Stream::Digits0,
-    Stream::Dzlen,
-    Stream::Dup,
-    Stream::Diff,
-    Stream::Digits,
-    Stream::Ddelta,
-    Stream::Ddelta0,
-];
 
 /// The streams so far, and where the next token stands in them.
 struct Draft {
@@ -101,7 +88,7 @@ impl Draft {
     /// Bytes where perhaps no token looks for them.
     fn stray(&mut self, input: &mut Input<'_>) {
         let position = input.below(POSITIONS);
-        let stream = STREAMS[input.below(STREAMS.len())];
+        let stream = Stream::ALL[input.below(STREAMS)];
         let bytes = match input.below(8) {
             7 => run(input),
             length => input.take(length).to_vec(),

@@ -4,7 +4,8 @@ use crate::input::Input;
 use crate::pair::Pair;
 use second::directory::{POSITIONS, STREAMS};
 use second::kept::FIVE;
-use second::memory::{Lent, Memory};
+use second::lent::Lent;
+use second::memory::Memory;
 
 /// One change, the same for both sides. In kept tables it falls into the used part, and one
 /// number behind it at most: what lies beyond is compared, but nobody looks at it.

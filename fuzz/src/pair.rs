@@ -2,7 +2,9 @@
 
 use second::boundary::Linked;
 use second::calls::Second;
-use second::memory::{Call, Lent, Memory};
+use second::kept::FIVE;
+use second::lent::Lent;
+use second::memory::{Call, Memory};
 use second::refusal::unpack;
 
 pub struct Pair {
@@ -52,7 +54,7 @@ impl Pair {
     /// The text of a kept name, as far as hostile tables allow to say which it is.
     pub fn name(&self, number: u32) -> &[u8] {
         let memory = self.both();
-        let entry = memory.names.get().chunks_exact(5).nth(number as usize);
+        let entry = memory.names.get().chunks_exact(FIVE).nth(number as usize);
         let bounds = entry.map_or((0, 0), |entry| (entry[0] as usize, entry[1] as usize));
         let text = memory.text.get().get(bounds.0..).unwrap_or(&[]);
         text.get(..bounds.1).unwrap_or(&[])

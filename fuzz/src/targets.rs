@@ -6,6 +6,7 @@ use crate::input::Input;
 use crate::pair::Pair;
 use second::boundary;
 use second::cases::script::Packed;
+use second::kept::FIVE;
 use second::leaf::{self, LISTING_ROOM};
 use second::memory::{Call, Memory, Room};
 use second::refusal::DONE;
@@ -114,7 +115,7 @@ fn memory(input: &mut Input<'_>) -> (Packed, Pair) {
         let names = block.count as usize;
         room = Room {
             text: input.below(64) * names,
-            names: 5 * names - input.below(8).min(5 * names),
+            names: FIVE * names - input.below(8).min(FIVE * names),
             rows: input.below(64) * names,
         };
     }

@@ -135,9 +135,11 @@ fn halves(answer: u64) -> (u32, u32) {
 
 /// A code that the header doesn't have means that the archive is of another version.
 fn refusal(code: u32, value: u32) -> Refusal {
-    let reason = Reason::of(code);
+    let reason = Reason::of(code).unwrap_or_else(|| panic!("the library answered code {code}"));
+    // The number claimed goes with 11 always, be it the one that elsewhere says that there is none.
+    let named = reason == Reason::NotRead || value != NO_NAME;
     Refusal {
-        reason: reason.unwrap_or_else(|| panic!("the library answered code {code}")),
-        name: Some(value).filter(|name| *name != NO_NAME),
+        reason,
+        name: named.then_some(value),
     }
 }

@@ -1,7 +1,7 @@
 //! The binding: what goes through it in both directions, and that its sizes suffice.
 
 use aqsurvel::{bytes_for, Block, Read, Reason, Refusal, Room, Scoreboard, Verdict};
-use aqsurvel::{DIRECTORY, MOST_NAMES};
+use aqsurvel::{CURSORS, DIRECTORY, MOST_BYTES, MOST_NAMES, MOST_ROWS};
 
 fn refusal(reason: Reason, name: Option<u32>) -> Refusal {
     Refusal { reason, name }
@@ -71,7 +71,7 @@ fn a_claim_on_a_name_not_read() {
     let block = written(b"a\nb\n");
     let mut board = opened(&block);
     assert_eq!(board.read(), Ok(Read::Kept(0)));
-    for number in [1, 2, u32::MAX - 1] {
+    for number in [1, 2, u32::MAX - 1, u32::MAX] {
         let refused = refusal(Reason::NotRead, Some(number));
         assert_eq!(board.claim(number, b"b"), Err(refused));
     }
@@ -193,6 +193,20 @@ fn reasons_have_the_headers_numbers_and_words() {
         assert!(HEADER.contains(&line), "{line}");
     }
     assert_eq!((Reason::of(0), Reason::of(14)), (None, None));
+}
+
+#[test]
+fn limits_are_the_headers() {
+    for (word, number) in [
+        ("DIRECTORY", DIRECTORY),
+        ("CURSORS", CURSORS),
+        ("MOST_NAMES", MOST_NAMES as usize),
+        ("MOST_BYTES", MOST_BYTES),
+        ("MOST_ROWS", MOST_ROWS),
+    ] {
+        let line = format!("#define AQ_{word} {number}u");
+        assert!(HEADER.contains(&line), "{line}");
+    }
 }
 
 #[test]

@@ -30,65 +30,46 @@ mod linked {
     use crate::directory::Block;
     use crate::kept::Tables;
 
+    // A slice a line.
+    #[rustfmt::skip]
     extern "C" {
         fn aq_open(
-            bytes: *const u8,
-            bytes_len: usize,
-            directory: *const u32,
-            directory_len: usize,
+            bytes: *const u8, bytes_len: usize,
+            directory: *const u32, directory_len: usize,
             count: u32,
-            cursors: *mut u32,
-            cursors_len: usize,
+            cursors: *mut u32, cursors_len: usize,
             state: *mut u32,
         ) -> u64;
         fn aq_read(
-            bytes: *const u8,
-            bytes_len: usize,
-            directory: *const u32,
-            directory_len: usize,
-            cursors: *mut u32,
-            cursors_len: usize,
-            text: *mut u8,
-            text_len: usize,
-            names: *mut u32,
-            names_len: usize,
-            rows: *mut u32,
-            rows_len: usize,
+            bytes: *const u8, bytes_len: usize,
+            directory: *const u32, directory_len: usize,
+            cursors: *mut u32, cursors_len: usize,
+            text: *mut u8, text_len: usize,
+            names: *mut u32, names_len: usize,
+            rows: *mut u32, rows_len: usize,
             state: *mut u32,
         ) -> u64;
         fn aq_read_block(
-            bytes: *const u8,
-            bytes_len: usize,
-            directory: *const u32,
-            directory_len: usize,
+            bytes: *const u8, bytes_len: usize,
+            directory: *const u32, directory_len: usize,
             count: u32,
-            cursors: *mut u32,
-            cursors_len: usize,
-            text: *mut u8,
-            text_len: usize,
-            names: *mut u32,
-            names_len: usize,
-            rows: *mut u32,
-            rows_len: usize,
+            cursors: *mut u32, cursors_len: usize,
+            text: *mut u8, text_len: usize,
+            names: *mut u32, names_len: usize,
+            rows: *mut u32, rows_len: usize,
             state: *mut u32,
         ) -> u64;
         fn aq_claim(
             number: u32,
-            claim: *const u8,
-            claim_len: usize,
-            text: *const u8,
-            text_len: usize,
-            names: *const u32,
-            names_len: usize,
+            claim: *const u8, claim_len: usize,
+            text: *const u8, text_len: usize,
+            names: *const u32, names_len: usize,
             state: *const u32,
         ) -> u64;
         fn aq_write(
-            input: *const u8,
-            input_len: usize,
-            directory: *mut u32,
-            directory_len: usize,
-            bytes: *mut u8,
-            bytes_len: usize,
+            input: *const u8, input_len: usize,
+            directory: *mut u32, directory_len: usize,
+            bytes: *mut u8, bytes_len: usize,
             totals: *mut u32,
         ) -> u64;
     }
@@ -97,24 +78,18 @@ mod linked {
     /// it, or from an array of the length the header names, and none overlap.
     pub struct Linked;
 
+    #[rustfmt::skip]
     impl Calls for Linked {
         fn open(
-            &self,
-            block: Block<'_>,
-            count: u32,
-            cursors: &mut [u32],
-            state: &mut [u32; 4],
+            &self, block: Block<'_>, count: u32, cursors: &mut [u32], state: &mut [u32; 4],
         ) -> u64 {
             // SAFETY: see `Linked`.
             unsafe {
                 aq_open(
-                    start(block.bytes),
-                    block.bytes.len(),
-                    start(block.directory),
-                    block.directory.len(),
+                    start(block.bytes), block.bytes.len(),
+                    start(block.directory), block.directory.len(),
                     count,
-                    start_mut(cursors),
-                    cursors.len(),
+                    start_mut(cursors), cursors.len(),
                     state.as_mut_ptr(),
                 )
             }
@@ -124,46 +99,30 @@ mod linked {
             // SAFETY: see `Linked`.
             unsafe {
                 aq_read(
-                    start(block.bytes),
-                    block.bytes.len(),
-                    start(block.directory),
-                    block.directory.len(),
-                    start_mut(cursors),
-                    cursors.len(),
-                    start_mut(tables.text),
-                    tables.text.len(),
-                    start_mut(tables.names),
-                    tables.names.len(),
-                    start_mut(tables.rows),
-                    tables.rows.len(),
+                    start(block.bytes), block.bytes.len(),
+                    start(block.directory), block.directory.len(),
+                    start_mut(cursors), cursors.len(),
+                    start_mut(tables.text), tables.text.len(),
+                    start_mut(tables.names), tables.names.len(),
+                    start_mut(tables.rows), tables.rows.len(),
                     tables.state.as_mut_ptr(),
                 )
             }
         }
 
         fn read_block(
-            &self,
-            block: Block<'_>,
-            count: u32,
-            cursors: &mut [u32],
-            tables: Tables<'_>,
+            &self, block: Block<'_>, count: u32, cursors: &mut [u32], tables: Tables<'_>,
         ) -> u64 {
             // SAFETY: see `Linked`.
             unsafe {
                 aq_read_block(
-                    start(block.bytes),
-                    block.bytes.len(),
-                    start(block.directory),
-                    block.directory.len(),
+                    start(block.bytes), block.bytes.len(),
+                    start(block.directory), block.directory.len(),
                     count,
-                    start_mut(cursors),
-                    cursors.len(),
-                    start_mut(tables.text),
-                    tables.text.len(),
-                    start_mut(tables.names),
-                    tables.names.len(),
-                    start_mut(tables.rows),
-                    tables.rows.len(),
+                    start_mut(cursors), cursors.len(),
+                    start_mut(tables.text), tables.text.len(),
+                    start_mut(tables.names), tables.names.len(),
+                    start_mut(tables.rows), tables.rows.len(),
                     tables.state.as_mut_ptr(),
                 )
             }
@@ -174,33 +133,23 @@ mod linked {
             unsafe {
                 aq_claim(
                     number,
-                    start(claimed),
-                    claimed.len(),
-                    start(kept.text),
-                    kept.text.len(),
-                    start(kept.names),
-                    kept.names.len(),
+                    start(claimed), claimed.len(),
+                    start(kept.text), kept.text.len(),
+                    start(kept.names), kept.names.len(),
                     kept.state.as_ptr(),
                 )
             }
         }
 
         fn write(
-            &self,
-            input: &[u8],
-            directory: &mut [u32],
-            bytes: &mut [u8],
-            totals: &mut [u32; 2],
+            &self, input: &[u8], directory: &mut [u32], bytes: &mut [u8], totals: &mut [u32; 2],
         ) -> u64 {
             // SAFETY: see `Linked`.
             unsafe {
                 aq_write(
-                    start(input),
-                    input.len(),
-                    start_mut(directory),
-                    directory.len(),
-                    start_mut(bytes),
-                    bytes.len(),
+                    start(input), input.len(),
+                    start_mut(directory), directory.len(),
+                    start_mut(bytes), bytes.len(),
                     totals.as_mut_ptr(),
                 )
             }

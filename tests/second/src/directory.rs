@@ -32,6 +32,21 @@ pub enum Stream {
     Ddelta0,
 }
 
+impl Stream {
+    pub const ALL: [Stream; STREAMS] = [
+        Stream::Type,
+        Stream::String,
+        Stream::Char,
+        Stream::Digits0,
+        Stream::Dzlen,
+        Stream::Dup,
+        Stream::Diff,
+        Stream::Digits,
+        Stream::Ddelta,
+        Stream::Ddelta0,
+    ];
+}
+
 /// Place of a span in the directory and of its cursor in the cursor table.
 pub fn place(position: usize, stream: Stream) -> usize {
     position * STREAMS + stream as usize

@@ -143,6 +143,16 @@ impl<'a> Earlier<'a> {
 }
 
 impl Tables<'_> {
+    /// The same for one call, to be had back after it.
+    pub fn lend(&mut self) -> Tables<'_> {
+        Tables {
+            text: self.text,
+            names: self.names,
+            rows: self.rows,
+            state: self.state,
+        }
+    }
+
     /// 13 for the counts of a read; the state if they are sound.
     pub fn judge(&self) -> Result<State, Reason> {
         let state = State::from_numbers(*self.state);

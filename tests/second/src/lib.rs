@@ -18,6 +18,7 @@ pub mod directory;
 pub mod distance;
 pub mod kept;
 pub mod leaf;
+pub mod lent;
 pub mod listing;
 pub mod memory;
 pub mod name;

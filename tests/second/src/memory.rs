@@ -7,56 +7,11 @@ use crate::cases::script::Packed;
 use crate::claim::KeptText;
 #[cfg(feature = "linked")]
 use crate::compare::{compare, Case, Tally};
-use crate::directory::{Block, DIRECTORY, SPANS};
+use crate::directory::{Block, DIRECTORY, MOST_BYTES, MOST_ROWS, SPANS, STREAMS};
 use crate::kept::{Entry, Tables, FIVE};
+use crate::lent::Lent;
 use crate::refusal::unpack;
 use std::fmt;
-
-/// Elements before and behind each lent slice; a call that strays alters them.
-const GUARD: usize = 8;
-
-/// A slice to lend, with guards around it.
-#[derive(Clone, PartialEq, Eq)]
-pub struct Lent<T> {
-    all: Vec<T>,
-}
-
-impl<T: Copy> Lent<T> {
-    pub fn new(lent: &[T], guard: T) -> Self {
-        let wall = [guard; GUARD];
-        Lent {
-            all: [&wall, lent, &wall].concat(),
-        }
-    }
-
-    pub fn get(&self) -> &[T] {
-        &self.all[GUARD..self.all.len() - GUARD]
-    }
-
-    pub fn get_mut(&mut self) -> &mut [T] {
-        let end = self.all.len() - GUARD;
-        &mut self.all[GUARD..end]
-    }
-
-    /// Another length; what is kept of the contents stays.
-    pub fn resize(&mut self, length: usize, filler: T) {
-        let wall = self.all[0];
-        let mut lent = self.get().to_vec();
-        lent.resize(length, filler);
-        *self = Lent::new(&lent, wall);
-    }
-
-    /// Where two lent slices differ first, counted from the first lent element.
-    fn difference(&self, other: &Self) -> Option<(i64, T, T)>
-    where
-        T: PartialEq,
-    {
-        let pairs = self.all.iter().zip(&other.all).enumerate();
-        let mut differing = pairs.filter(|(_, (left, right))| left != right);
-        let (place, (left, right)) = differing.next()?;
-        Some((place as i64 - GUARD as i64, *left, *right))
-    }
-}
 
 #[derive(Clone, PartialEq, Eq)]
 pub struct Memory {
@@ -82,9 +37,9 @@ impl Room {
     /// More than any block of so many names can need.
     pub fn ample(names: usize) -> Room {
         Room {
-            text: 255 * names,
+            text: (MOST_BYTES + 1) * names,
             names: FIVE * names,
-            rows: 127 * FIVE * names,
+            rows: FIVE * MOST_ROWS as usize * names,
         }
     }
 }
@@ -162,7 +117,7 @@ impl Memory {
 
     pub fn run(&mut self, calls: &dyn Calls, call: &Call) -> u64 {
         match call {
-            Call::Claim { number, claimed } => calls.claim(*number, claimed, self.kept()),
+            Call::Claim { number, claimed } => calls.claim(*number, claimed, self.to_claim()),
             Call::Write { input } => calls.write(
                 input,
                 self.directory.get_mut(),
@@ -192,17 +147,7 @@ impl Memory {
     }
 
     fn run_read(&mut self, calls: &dyn Calls, call: &Call) -> u64 {
-        let block = Block {
-            bytes: self.bytes.get(),
-            directory: self.directory.get(),
-        };
-        let cursors = self.cursors.get_mut();
-        let tables = Tables {
-            text: self.text.get_mut(),
-            names: self.names.get_mut(),
-            rows: self.rows.get_mut(),
-            state: array_mut(&mut self.state),
-        };
+        let (block, cursors, tables) = self.to_read();
         match call {
             Call::Open { count } => calls.open(block, *count, cursors, tables.state),
             Call::ReadBlock { count } => calls.read_block(block, *count, cursors, tables),
@@ -210,7 +155,23 @@ impl Memory {
         }
     }
 
-    fn kept(&self) -> KeptText<'_> {
+    /// What a read is lent.
+    pub fn to_read(&mut self) -> (Block<'_>, &mut [u32], Tables<'_>) {
+        let block = Block {
+            bytes: self.bytes.get(),
+            directory: self.directory.get(),
+        };
+        let tables = Tables {
+            text: self.text.get_mut(),
+            names: self.names.get_mut(),
+            rows: self.rows.get_mut(),
+            state: array_mut(&mut self.state),
+        };
+        (block, self.cursors.get_mut(), tables)
+    }
+
+    /// What a claim is lent.
+    pub fn to_claim(&self) -> KeptText<'_> {
         KeptText {
             text: self.text.get(),
             names: self.names.get(),
@@ -245,6 +206,12 @@ impl Memory {
         (0..self.state_numbers()[1]).map(text).collect()
     }
 
+    /// The same as text.
+    pub fn kept_texts(&self) -> Vec<String> {
+        let text = |name| String::from_utf8_lossy(name).into_owned();
+        self.kept_names().into_iter().map(text).collect()
+    }
+
     /// In words, the first place where two memories of the same shape differ.
     pub fn difference(&self, other: &Memory) -> Option<String> {
         let numbers = [
@@ -259,24 +226,18 @@ impl Memory {
             ("text", &self.text, &other.text),
             ("bytes", &self.bytes, &other.bytes),
         ];
-        let numbers = numbers
-            .into_iter()
-            .find_map(|(word, left, right)| in_words(word, left, right));
-        let bytes = || {
-            bytes
-                .into_iter()
-                .find_map(|(word, left, right)| in_words(word, left, right))
-        };
-        numbers.or_else(bytes)
+        first_difference(&numbers).or_else(|| first_difference(&bytes))
     }
 }
 
-fn in_words<T>(word: &str, left: &Lent<T>, right: &Lent<T>) -> Option<String>
+fn first_difference<T>(parts: &[(&str, &Lent<T>, &Lent<T>)]) -> Option<String>
 where
     T: Copy + PartialEq + fmt::Display,
 {
-    let (place, left, right) = left.difference(right)?;
-    Some(format!("{word}[{place}] is {left} against {right}"))
+    parts.iter().find_map(|(word, left, right)| {
+        let (place, left, right) = left.difference(right)?;
+        Some(format!("{word}[{place}] is {left} against {right}"))
+    })
 }
 
 const NEVER_RESIZED: &str = "state and totals keep their length";
@@ -329,7 +290,7 @@ impl Memory {
             bounds[0] != bounds[1] || **cursor != bounds[0]
         };
         for (place, (bounds, cursor)) in spans.filter(told).take(40) {
-            let (position, stream) = (place / 10, place % 10);
+            let (position, stream) = (place / STREAMS, place % STREAMS);
             let (from, to) = (bounds[0], bounds[1]);
             writeln!(
                 out,

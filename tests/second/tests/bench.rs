@@ -1,24 +1,10 @@
 //! The bench cases of document 01, those marked P and the others.
 
 use second::cases::script::Script;
-use second::cases::{read_whole, write_whole};
+use second::cases::{names_of, read_whole, refused, write_whole};
 use second::digits::{fits, print_padded};
 use second::listing::listing;
 use second::refusal::{DONE, NO_NAME};
-
-/// The names of a block that reads to the end.
-fn names(script: Script) -> Vec<String> {
-    let block = script.packed();
-    let (answer, memory) = read_whole(&block);
-    assert_eq!(answer, (DONE, block.count));
-    let text = |name: &&[u8]| String::from_utf8(name.to_vec()).unwrap();
-    memory.kept_names().iter().map(text).collect()
-}
-
-/// Refusal and name of a block that doesn't.
-fn refused(script: Script) -> (u32, u32) {
-    read_whole(&script.packed()).0
-}
 
 /// The listing, whose total is that of the call that writes.
 fn listed(input: &str) -> String {
@@ -33,30 +19,36 @@ fn listed(input: &str) -> String {
 fn p_number_123_at_width_5() {
     assert_eq!(print_padded(123, 5).unwrap(), b"00123");
     assert_eq!(
-        names(Script::new().diff(0).digits0(123, 5).end()),
+        names_of(&Script::new().diff(0).digits0(123, 5).end()),
         ["00123"]
     );
 }
 
 #[test]
 fn p_number_0_at_widths_1_and_0() {
-    assert_eq!(names(Script::new().diff(0).digits0(0, 1).end()), ["0"]);
-    assert_eq!(refused(Script::new().diff(0).digits0(0, 0).end()), (6, 0));
+    assert_eq!(names_of(&Script::new().diff(0).digits0(0, 1).end()), ["0"]);
+    assert_eq!(refused(&Script::new().diff(0).digits0(0, 0).end()), (6, 0));
     assert!(!fits(0, 0));
 }
 
 #[test]
 fn p_width_2_takes_99_and_not_123() {
-    assert_eq!(names(Script::new().diff(0).digits0(99, 2).end()), ["99"]);
-    assert_eq!(refused(Script::new().diff(0).digits0(123, 2).end()), (6, 0));
+    assert_eq!(
+        names_of(&Script::new().diff(0).digits0(99, 2).end()),
+        ["99"]
+    );
+    assert_eq!(
+        refused(&Script::new().diff(0).digits0(123, 2).end()),
+        (6, 0)
+    );
 }
 
 #[test]
 fn p_the_largest_number_plus_0_and_plus_1() {
     let first = Script::new().diff(0).digits(4_294_967_295).end();
     let passes = first.clone().diff(1).ddelta(0).end();
-    assert_eq!(names(passes), ["4294967295", "4294967295"]);
-    assert_eq!(refused(first.diff(1).ddelta(1).end()), (6, 1));
+    assert_eq!(names_of(&passes), ["4294967295", "4294967295"]);
+    assert_eq!(refused(&first.diff(1).ddelta(1).end()), (6, 1));
 }
 
 #[test]
@@ -65,20 +57,20 @@ fn p_99_plus_1_at_widths_2_and_3() {
         let first = Script::new().diff(0).digits0(99, width).end();
         first.diff(1).ddelta0(1).end()
     };
-    assert_eq!(refused(wide(2)), (6, 1));
-    assert_eq!(names(wide(3)), ["099", "100"]);
+    assert_eq!(refused(&wide(2)), (6, 1));
+    assert_eq!(names_of(&wide(3)), ["099", "100"]);
 }
 
 #[test]
 fn p_name_0_with_a_distance() {
-    assert_eq!(refused(Script::new().dup(0)), (4, 0));
-    assert_eq!(refused(Script::new().dup(1)), (4, 0));
-    assert_eq!(refused(Script::new().diff(1).char(b'a').end()), (4, 0));
+    assert_eq!(refused(&Script::new().dup(0)), (4, 0));
+    assert_eq!(refused(&Script::new().dup(1)), (4, 0));
+    assert_eq!(refused(&Script::new().diff(1).char(b'a').end()), (4, 0));
 }
 
 #[test]
 fn p_name_0_with_match() {
-    assert_eq!(refused(Script::new().diff(0).matched().end()), (5, 0));
+    assert_eq!(refused(&Script::new().diff(0).matched().end()), (5, 0));
 }
 
 #[test]
@@ -88,22 +80,22 @@ fn p_name_3_with_distances_3_and_4() {
         let second = first.diff(1).string(b"second").end();
         second.dup(1).diff(distance).matched().end()
     };
-    assert_eq!(names(three(3)), ["first", "second", "second", "first"]);
-    assert_eq!(refused(three(4)), (4, 3));
+    assert_eq!(names_of(&three(3)), ["first", "second", "second", "first"]);
+    assert_eq!(refused(&three(4)), (4, 3));
 }
 
 #[test]
 fn p_end_at_position_1() {
-    assert_eq!(refused(Script::new().diff(0).end()), (8, 0));
+    assert_eq!(refused(&Script::new().diff(0).end()), (8, 0));
 }
 
 #[test]
 fn p_bytes_around_the_at_sign() {
     let one = |byte| Script::new().diff(0).char(byte).end();
-    assert_eq!(names(one(b'?')), ["?"]);
-    assert_eq!(names(one(b'A')), ["A"]);
-    assert_eq!(refused(one(b'@')), (8, 0));
-    assert_eq!(refused(one(b' ')), (8, 0));
+    assert_eq!(names_of(&one(b'?')), ["?"]);
+    assert_eq!(names_of(&one(b'A')), ["A"]);
+    assert_eq!(refused(&one(b'@')), (8, 0));
+    assert_eq!(refused(&one(b' ')), (8, 0));
 }
 
 #[test]
@@ -122,8 +114,8 @@ fn p_steps_of_255_and_256_and_downwards() {
 #[test]
 fn names_of_254_and_255_bytes() {
     let long = |length| Script::new().diff(0).string(&vec![b'q'; length]).end();
-    assert_eq!(names(long(254)), ["q".repeat(254)]);
-    assert_eq!(refused(long(255)), (8, 0));
+    assert_eq!(names_of(&long(254)), ["q".repeat(254)]);
+    assert_eq!(refused(&long(255)), (8, 0));
     let input = |length| [vec![b'q'; length], vec![b'\n']].concat();
     assert_eq!(write_whole(&input(254), 1).0 .0, 0);
     assert_eq!(write_whole(&input(255), 1).0, (8, 0));
@@ -133,8 +125,8 @@ fn names_of_254_and_255_bytes() {
 fn position_128_takes_end_alone() {
     let full = |start: Script| (1..128).fold(start, |script, _| script.char(b'c'));
     let script = full(Script::new().diff(0));
-    assert_eq!(names(script.clone().end()), ["c".repeat(127)]);
-    assert_eq!(refused(script.char(b'c')), (7, 0));
+    assert_eq!(names_of(&script.clone().end()), ["c".repeat(127)]);
+    assert_eq!(refused(&script.char(b'c')), (7, 0));
 }
 
 #[test]

@@ -26,81 +26,47 @@ fn input(names: &[&str]) -> Vec<u8> {
         .collect()
 }
 
-fn kept(memory: &Memory) -> Vec<&str> {
-    let names = memory.kept_names().into_iter();
-    names
-        .map(|name| std::str::from_utf8(name).unwrap())
-        .collect()
+/// The draft's seven tokens of its first name.
+fn draft_0() -> Script {
+    let start = Script::new().diff(0).string(b"I17_08765:2:").digits(123);
+    let middle = start.char(b':').digits(61_541).char(b':');
+    middle.digits0(1_763, 5).string(b"#9").end()
 }
 
-/// The draft's seven tokens; its third name can match and step where it says so.
+/// Those of its third name, which matches and steps where the draft says so.
+fn draft_2(before: Script, distance: u32) -> Script {
+    let start = before.diff(distance).matched().ddelta(1).matched();
+    let middle = start.digits(45_613).matched().digits(16_161);
+    middle.matched().end()
+}
+
 #[test]
 fn the_draft_s_tokens_read_as_its_names() {
-    let first = Script::new()
-        .diff(0)
-        .string(b"I17_08765:2:")
-        .digits(123)
-        .char(b':');
-    let first = first
-        .digits(61_541)
-        .char(b':')
-        .digits0(1_763, 5)
-        .string(b"#9")
-        .end();
-    let second = first.diff(1).matched().matched().matched().digits(1_636);
-    let second = second.matched().digits0(8_611, 5).matched().end();
-    let third = second.diff(1).matched().ddelta(1).matched().digits(45_613);
-    let third = third.matched().digits(16_161).matched().end();
+    let second = draft_0().diff(1).matched().matched().matched();
+    let second = second.digits(1_636).matched().digits0(8_611, 5);
+    let third = draft_2(second.matched().end(), 1);
     let (answer, memory) = read_whole(&third.packed());
     assert_eq!(answer, (DONE, 3));
-    assert_eq!(kept(&memory), DRAFT);
+    assert_eq!(memory.kept_texts(), DRAFT);
     assert_eq!(memory.state_numbers()[3], 21);
 }
 
 /// The same names with the third set against the first.
 #[test]
 fn the_draft_s_names_at_a_distance_of_two() {
-    let first = Script::new()
-        .diff(0)
-        .string(b"I17_08765:2:")
-        .digits(123)
-        .char(b':');
-    let first = first
-        .digits(61_541)
-        .char(b':')
-        .digits0(1_763, 5)
-        .string(b"#9")
-        .end();
-    let second = first.diff(1).string(DRAFT[1].as_bytes()).end();
-    let third = second.diff(2).matched().ddelta(1).matched().digits(45_613);
-    let third = third.matched().digits(16_161).matched().end();
-    let (answer, memory) = read_whole(&third.packed());
+    let second = draft_0().diff(1).string(DRAFT[1].as_bytes()).end();
+    let (answer, memory) = read_whole(&draft_2(second, 2).packed());
     assert_eq!(answer, (DONE, 3));
-    assert_eq!(kept(&memory), DRAFT);
+    assert_eq!(memory.kept_texts(), DRAFT);
     assert_eq!(memory.entry(2).distance, 2);
 }
 
 /// The annex's table: fourteen tokens and END for each of its two names.
 fn annex() -> Script {
-    let first = Script::new()
-        .diff(0)
-        .string(b"HS")
-        .digits(25)
-        .char(b'_')
-        .digits0(9_827, 5);
-    let first = first
-        .char(b':')
-        .digits(2)
-        .char(b':')
-        .digits(2_215)
-        .char(b':');
-    let first = first
-        .digits(4_133)
-        .char(b':')
-        .digits0(216, 5)
-        .char(b'#')
-        .digits(49)
-        .end();
+    let start = Script::new().diff(0).string(b"HS").digits(25).char(b'_');
+    let start = start.digits0(9_827, 5).char(b':').digits(2).char(b':');
+    let middle = start.digits(2_215).char(b':').digits(4_133).char(b':');
+    let first = middle.digits0(216, 5).char(b'#').digits(49).end();
     let seven = (0..7).fold(first.diff(1), |script, _| script.matched());
     let middle = seven.ddelta(12).matched().digits(15_822).matched();
     middle.ddelta0(30).matched().matched().end()
@@ -110,7 +76,7 @@ fn annex() -> Script {
 fn the_annex_s_tokens_read_as_its_names() {
     let (answer, memory) = read_whole(&annex().packed());
     assert_eq!(answer, (DONE, 2));
-    assert_eq!(kept(&memory), ANNEX);
+    assert_eq!(memory.kept_texts(), ANNEX);
 }
 
 /// The writing rule splits the annex's names just as the annex does.
@@ -146,7 +112,7 @@ fn both_documents_names_written_and_read_back() {
         let count = names.len() as u32;
         let answer = memory.ask(&Call::ReadBlock { count });
         assert_eq!(answer, (DONE, count));
-        assert_eq!(kept(&memory), names);
+        assert_eq!(memory.kept_texts(), names);
     }
 }
 

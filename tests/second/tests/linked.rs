@@ -18,7 +18,7 @@ fn times() -> u64 {
 fn all_families() {
     let tally = run(&Second, &Linked, times()).unwrap_or_else(|found| panic!("{found}"));
     println!("{tally:?}");
-    assert!(tally.values().sum::<u64>() > 100_000);
+    assert!(tally.values().sum::<u64>() > 300_000);
 }
 
 #[test]
@@ -37,5 +37,5 @@ fn every_edge_of_some_small_blocks() {
     for case in edges::cases() {
         compare(&case, &Second, &Linked, &mut tally).unwrap();
     }
-    assert!(tally.values().sum::<u64>() > 20_000, "{tally:?}");
+    assert!(tally.values().sum::<u64>() > 40_000, "{tally:?}");
 }

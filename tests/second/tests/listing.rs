@@ -1,6 +1,7 @@
 //! The listing program.
 
 use second::listing::listing;
+use std::fs;
 use std::io::Write;
 use std::process::{Command, Stdio};
 
@@ -87,6 +88,23 @@ fn the_rest_at_position_127() {
     assert!(listed(digits.as_bytes()).contains(" CHAR a CHAR 7 END\n"));
     let twice = ["1a".repeat(63), "7\n".into(), "1a".repeat(63), "8\n".into()].concat();
     assert!(listed(twice.as_bytes()).contains(" MATCH CHAR 8 END\n"));
+}
+
+/// What is stored for the library's program is what this one prints.
+#[test]
+fn the_stored_pairs() {
+    let folder = concat!(env!("CARGO_MANIFEST_DIR"), "/../listing");
+    let files = fs::read_dir(folder).unwrap();
+    let paths = files.map(|file| file.unwrap().path());
+    let inputs = paths.filter(|path| path.extension().is_some_and(|end| end == "in"));
+    let mut pairs = 0;
+    for path in inputs {
+        let stored = fs::read(path.with_extension("out")).unwrap();
+        let listed = listing(&fs::read(&path).unwrap());
+        assert!(listed == stored, "{}", path.display());
+        pairs += 1;
+    }
+    assert!(pairs > 50, "only {pairs} pairs");
 }
 
 /// The library's listing beside the second program's, the whole buffer compared: generated names, spoilt ones, and

@@ -2,15 +2,10 @@
 //! which of two comes first.
 
 use second::cases::script::{Packed, Script};
-use second::cases::{read_some, read_whole, write_whole};
+use second::cases::{read_some, read_whole, refused, write_whole};
 use second::directory::{place, Stream};
 use second::memory::{Call, Memory};
 use second::refusal::{DONE, NO_NAME};
-
-/// What a script's block is refused with, and the name.
-fn refused(script: &Script) -> (u32, u32) {
-    read_whole(&script.packed()).0
-}
 
 /// The answer of one more read; a refused one alters nothing.
 fn next_read(memory: &mut Memory) -> (u32, u32) {

@@ -3,6 +3,7 @@
 use second::cases::blocks::planned;
 use second::cases::names::{ended, good};
 use second::cases::random::Random;
+use second::cases::script::Packed;
 use second::cases::{large, read_whole, write_whole};
 use second::directory::MOST_NAMES;
 use second::memory::{Call, Memory};
@@ -46,21 +47,89 @@ fn text_of(memory: &Memory, row: u32) -> Vec<u8> {
 
 #[test]
 fn planned_blocks_read_as_they_were_meant() {
-    let mut longest = (0, 0);
+    let mut reach = Reach::default();
     for seed in 0..3_000 {
         let planned = planned(&mut Random::new(seed), 12);
         let (answer, memory) = read_whole(&planned.block);
         assert_eq!(answer, (DONE, planned.block.count), "seed {seed}");
         assert_eq!(memory.kept_names(), planned.names, "seed {seed}");
         assert_kept_well(&memory);
-        for number in 0..planned.block.count {
+        reach.add(&planned.block, &memory);
+    }
+    reach.assert_far();
+}
+
+/// What the generated blocks had in them.
+#[derive(Debug, Default)]
+struct Reach {
+    longest_name: u32,
+    most_rows: u32,
+    longest_chain: u32,
+    distances_above_1: usize,
+    strings_of_digits: usize,
+    empty_strings: usize,
+    numbers_of_ten_digits: usize,
+    widths_above_ten: usize,
+    overlapping_blocks: usize,
+}
+
+impl Reach {
+    fn add(&mut self, block: &Packed, memory: &Memory) {
+        let [_, kept, _, rows] = memory.state_numbers();
+        let mut chains: Vec<u32> = Vec::new();
+        for number in 0..kept {
             let entry = memory.entry(number);
-            longest.0 = longest.0.max(entry.text_length);
-            longest.1 = longest.1.max(entry.row_count);
+            self.longest_name = self.longest_name.max(entry.text_length);
+            self.most_rows = self.most_rows.max(entry.row_count);
+            self.distances_above_1 += usize::from(entry.distance > 1);
+            let earlier = number - entry.distance;
+            let is_dup = number > 0 && memory.entry(earlier).first_row == entry.first_row;
+            let chain = if is_dup {
+                chains[earlier as usize] + 1
+            } else {
+                0
+            };
+            self.longest_chain = self.longest_chain.max(chain);
+            chains.push(chain);
+        }
+        (0..rows).for_each(|row| self.add_row(memory, row));
+        self.overlapping_blocks += usize::from(has_overlap(block));
+    }
+
+    fn add_row(&mut self, memory: &Memory, row: u32) {
+        let text = text_of(memory, row);
+        let digits = text.iter().all(u8::is_ascii_digit);
+        match *memory.row(row) {
+            [1, .., 0] => self.empty_strings += 1,
+            [1, ..] if digits => self.strings_of_digits += 1,
+            [4, _, width, ..] if width > 10 => self.widths_above_ten += 1,
+            [4 | 7, number, ..] if number >= 1_000_000_000 => self.numbers_of_ten_digits += 1,
+            _ => {}
         }
     }
-    // The generator reaches both limits of a name.
-    assert_eq!(longest, (254, 127));
+
+    fn assert_far(&self) {
+        let limits = (self.longest_name, self.most_rows);
+        assert_eq!(limits, (254, 127), "{self:?}");
+        assert!(self.longest_chain >= 6, "{self:?}");
+        let often = [
+            self.distances_above_1,
+            self.strings_of_digits,
+            self.empty_strings,
+            self.numbers_of_ten_digits,
+            self.widths_above_ten,
+            self.overlapping_blocks,
+        ];
+        assert!(often.iter().all(|times| *times >= 500), "{self:?}");
+    }
+}
+
+/// Two spans of the block have a byte in common.
+fn has_overlap(block: &Packed) -> bool {
+    let spans = block.directory.chunks_exact(2);
+    let mut used: Vec<&[u32]> = spans.filter(|span| span[0] < span[1]).collect();
+    used.sort_unstable();
+    used.windows(2).any(|pair| pair[1][0] < pair[0][1])
 }
 
 #[test]
@@ -89,7 +158,7 @@ fn written_names_read_back() {
     assert!(rests > 100, "only {rests} names of 127 tokens");
 }
 
-/// What the header's and the binding's size helpers say: six times the input suffices, and nothing less.
+/// What the header and the binding say of room for writing: six times the input suffices, and nothing less.
 #[test]
 fn the_name_that_takes_most() {
     let (written, _) = write_whole(b"0\n", 1);

@@ -1,7 +1,9 @@
 //! Honest memory made dishonest: a few numbers or bytes changed, a slice made shorter.
 
 use super::random::Random;
-use crate::memory::{Lent, Memory};
+use crate::kept::FIVE;
+use crate::lent::Lent;
+use crate::memory::Memory;
 
 /// Numbers at which some rule turns.
 pub const TURNS: [u32; 20] = [
@@ -70,15 +72,20 @@ fn nudge_length<T: Copy>(random: &mut Random, lent: &mut Lent<T>, filler: T) {
     lent.resize(changed, filler);
 }
 
-/// The place of a span that has bytes, if there is one.
+/// The place of a span that has bytes; the first span's if none has.
 fn used_span(random: &mut Random, directory: &[u32]) -> usize {
+    a_span(random, directory, |span| span[0] < span[1])
+}
+
+/// The place of a span of that sort; the first span's if there is none.
+fn a_span(random: &mut Random, directory: &[u32], sort: impl Fn(&[u32]) -> bool) -> usize {
     let spans = directory.chunks_exact(2).enumerate();
-    let used = spans.filter(|(_, span)| span[0] < span[1]);
-    let used: Vec<usize> = used.map(|(place, _)| place).collect();
-    if used.is_empty() {
+    let sorted = spans.filter(|(_, span)| sort(span));
+    let places: Vec<usize> = sorted.map(|(place, _)| place).collect();
+    if places.is_empty() {
         0
     } else {
-        random.pick(&used)
+        random.pick(&places)
     }
 }
 
@@ -111,14 +118,33 @@ fn swap_spans(random: &mut Random, memory: &mut Memory) {
     directory.swap(first + 1, second + 1);
 }
 
+/// Some spans laid over others: over as many bytes as they had, or over a part.
+pub fn overlay(random: &mut Random, memory: &mut Memory) {
+    let length = memory.bytes.get().len();
+    let directory = memory.directory.get_mut();
+    for _ in 0..random.between(1, 4) {
+        let from = 2 * used_span(random, directory);
+        let [start, end] = [directory[from], directory[from + 1]];
+        let alike = |span: &[u32]| span[1].wrapping_sub(span[0]) == end - start;
+        let to = 2 * a_span(random, directory, alike);
+        let (start, end) = if random.percent(75) {
+            (start, end)
+        } else {
+            let start = random.between(start as usize, end as usize);
+            (start as u32, random.between(start, length) as u32)
+        };
+        directory[to..to + 2].copy_from_slice(&[start, end]);
+    }
+}
+
 /// Changes to what is kept: state, entries, rows, text, cursors and the lengths.
 pub fn kept(random: &mut Random, memory: &mut Memory) {
     let [_, names, text, rows] = memory.state_numbers().map(|number| number as usize);
     for _ in 0..random.pick(&[1, 1, 2, 3, 6]) {
         match random.below(24) {
             0..=2 => nudge(random, &mut memory.state, 4),
-            3..=9 => nudge(random, &mut memory.names, 5 * names.min(65_536)),
-            10..=16 => nudge(random, &mut memory.rows, 5 * rows.min(65_536)),
+            3..=9 => nudge(random, &mut memory.names, FIVE * names.min(65_536)),
+            10..=16 => nudge(random, &mut memory.rows, FIVE * rows.min(65_536)),
             17 | 18 => nudge_byte(random, &mut memory.text, text),
             19 => cursor(random, memory),
             20 => nudge_length(random, &mut memory.text, 0x2E),
@@ -145,7 +171,7 @@ pub fn limits(random: &mut Random, memory: &mut Memory, text: usize, names: usiz
     let around = |random: &mut Random, exact: usize| (exact + random.below(3)).saturating_sub(1);
     match random.below(3) {
         0 => memory.text.resize(around(random, text), 0xEE),
-        1 => memory.names.resize(around(random, 5 * names), 0xEEEE),
-        _ => memory.rows.resize(around(random, 5 * rows), 0xEEEE),
+        1 => memory.names.resize(around(random, FIVE * names), 0xEEEE),
+        _ => memory.rows.resize(around(random, FIVE * rows), 0xEEEE),
     }
 }

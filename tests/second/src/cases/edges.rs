@@ -1,12 +1,17 @@
 //! Every edge of a few small blocks, one after another instead of at random: each length of
-//! each buffer, each span cut, each byte and each kept number changed.
+//! each buffer, each span cut, each byte, cursor and kept number changed.
 
 use super::blocks::{planned, Planned};
 use super::damage::TURNS;
+use super::names::ended;
 use super::random::Random;
 use crate::calls::Second;
 use crate::compare::Case;
-use crate::memory::{Call, Lent, Memory, Room};
+use crate::directory::{DIRECTORY, SPANS};
+use crate::kept::FIVE;
+use crate::lent::Lent;
+use crate::memory::{Call, Memory, Room};
+use std::ops::RangeInclusive;
 
 /// Bytes at which some rule turns: the types, the ends of what SAM allows.
 const BYTES: [u8; 17] = [
@@ -25,6 +30,7 @@ pub fn cases() -> impl Iterator<Item = Case> {
             spans(&planned),
             bytes(&planned),
             kept(&planned),
+            writes(&planned),
         ];
         edges.into_iter().flatten()
     })
@@ -34,13 +40,12 @@ pub fn cases() -> impl Iterator<Item = Case> {
 fn exact(planned: &Planned) -> Memory {
     let mut memory = Memory::new(&planned.block, Room::ample(planned.names.len()));
     let count = planned.block.count;
-    let unread = memory.clone();
-    memory.run(&Second, &Call::ReadBlock { count });
-    let [_, names, text, rows] = memory.state_numbers().map(|number| number as usize);
-    let mut memory = unread;
+    let mut trial = memory.clone();
+    trial.run(&Second, &Call::ReadBlock { count });
+    let [_, names, text, rows] = trial.state_numbers().map(|number| number as usize);
     memory.text.resize(text, 0xEE);
-    memory.names.resize(5 * names, 0xEEEE);
-    memory.rows.resize(5 * rows, 0xEEEE);
+    memory.names.resize(FIVE * names, 0xEEEE);
+    memory.rows.resize(FIVE * rows, 0xEEEE);
     memory
 }
 
@@ -50,22 +55,35 @@ fn whole(planned: &Planned, memory: Memory) -> Case {
     Case { memory, calls }
 }
 
+/// Every length of what a read fills and of the bytes, up to a little more than is needed;
+/// around the one right length of directory and cursors.
 fn lengths(planned: &Planned) -> Vec<Case> {
     let exact = exact(planned);
-    let mut cases = Vec::new();
-    for length in 0..=exact.text.get().len() + 1 {
-        let mut memory = exact.clone();
-        memory.text.resize(length, 0xEE);
-        cases.push(whole(planned, memory));
-    }
-    for table in [names as Table, rows as Table] {
-        for length in 0..=table(&mut exact.clone()).get().len() + 6 {
+    let text = 0..=exact.text.get().len() + 1;
+    let names = 0..=exact.names.get().len() + FIVE + 1;
+    let rows = 0..=exact.rows.get().len() + FIVE + 1;
+    let bytes = 0..=exact.bytes.get().len() + 1;
+    let resized = |lengths: RangeInclusive<usize>, resize: fn(&mut Memory, usize)| {
+        let case = |length| {
             let mut memory = exact.clone();
-            table(&mut memory).resize(length, 0xEEEE);
-            cases.push(whole(planned, memory));
-        }
-    }
-    cases
+            resize(&mut memory, length);
+            whole(planned, memory)
+        };
+        lengths.map(case).collect::<Vec<Case>>()
+    };
+    [
+        resized(text, |memory, length| memory.text.resize(length, 0xEE)),
+        resized(names, |memory, length| memory.names.resize(length, 0xEEEE)),
+        resized(rows, |memory, length| memory.rows.resize(length, 0xEEEE)),
+        resized(bytes, |memory, length| memory.bytes.resize(length, 1)),
+        resized(DIRECTORY - 2..=DIRECTORY + 2, |memory, length| {
+            memory.directory.resize(length, 0);
+        }),
+        resized(SPANS - 2..=SPANS + 2, |memory, length| {
+            memory.cursors.resize(length, 0);
+        }),
+    ]
+    .concat()
 }
 
 /// Both bounds of each span that has bytes, one up and one down.
@@ -100,7 +118,8 @@ fn bytes(planned: &Planned) -> Vec<Case> {
         .collect()
 }
 
-/// After each name: each number of the state, the entries and the rows, at every turn.
+/// After each name: each number of the state, the entries and the rows at every turn, and each
+/// cursor around both bounds of its span.
 fn kept(planned: &Planned) -> Vec<Case> {
     let mut memory = exact(planned);
     let count = planned.block.count;
@@ -110,10 +129,48 @@ fn kept(planned: &Planned) -> Vec<Case> {
         memory.run(&Second, &Call::Read);
         let [_, kept, _, used] = memory.state_numbers().map(|number| number as usize);
         cases.extend(turned(planned, &memory, state, 4));
-        cases.extend(turned(planned, &memory, names, 5 * kept));
-        cases.extend(turned(planned, &memory, rows, 5 * used));
+        cases.extend(turned(planned, &memory, names, FIVE * kept));
+        cases.extend(turned(planned, &memory, rows, FIVE * used));
+        cases.extend(moved(&memory));
     }
     cases
+}
+
+/// Each cursor of a span that has bytes; the last span of all stands for those that have none.
+fn moved(memory: &Memory) -> Vec<Case> {
+    let spans = memory.directory.get().chunks_exact(2).enumerate();
+    let told = spans.filter(|(place, span)| span[0] < span[1] || *place == SPANS - 1);
+    let mut cases = Vec::new();
+    for (place, span) in told {
+        for bound in span {
+            for cursor in [bound.wrapping_sub(1), *bound, bound + 1] {
+                let mut memory = memory.clone();
+                memory.cursors.get_mut()[place] = cursor;
+                let calls = vec![Call::Read, Call::Read];
+                cases.push(Case { memory, calls });
+            }
+        }
+    }
+    cases
+}
+
+/// The names written with every length of the bytes, up to one more than they take.
+fn writes(planned: &Planned) -> Vec<Case> {
+    let input = ended(&planned.names);
+    let count = planned.block.count;
+    let case = |length| Case {
+        memory: Memory::to_write(length, planned.names.len()),
+        calls: vec![
+            Call::Write {
+                input: input.clone(),
+            },
+            Call::ReadBlock { count },
+        ],
+    };
+    let mut trial = case(6 * input.len());
+    trial.memory.run(&Second, &trial.calls[0]);
+    let [_, total] = trial.memory.total_numbers();
+    (0..=total as usize + 1).map(case).collect()
 }
 
 fn turned(planned: &Planned, memory: &Memory, table: Table, length: usize) -> Vec<Case> {

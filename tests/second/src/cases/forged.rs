@@ -3,6 +3,7 @@
 use super::damage::near;
 use super::random::Random;
 use super::script::Script;
+use crate::kept::FIVE;
 use crate::memory::{Memory, Room};
 
 /// A memory in which some names seem to be kept and the next two are to be read.
@@ -11,11 +12,11 @@ pub fn forged(random: &mut Random) -> Memory {
     let most = 255 * kept;
     let used = random.pick(&[1, 20, 20, 255, most]).min(most);
     let rows = row_table(random, used);
-    let names = name_table(random, kept, used, rows.len() / 5);
+    let names = name_table(random, kept, used, rows.len() / FIVE);
     let block = leaning(random, kept, &rows);
     let room = Room {
         text: used + random.pick(&[0, 100, 600]),
-        names: 5 * (kept + 2),
+        names: FIVE * (kept + 2),
         rows: rows.len() + random.pick(&[0, 9, 600]),
     };
     let mut memory = Memory::new(&block.packed(), room);
@@ -30,7 +31,7 @@ pub fn forged(random: &mut Random) -> Memory {
     memory.rows.get_mut()[..rows.len()].copy_from_slice(&rows);
     let starts: Vec<u32> = memory.directory.get().iter().step_by(2).copied().collect();
     memory.cursors.get_mut().copy_from_slice(&starts);
-    let state = [kept + 2, kept, used, rows.len() / 5].map(|number| number as u32);
+    let state = [kept + 2, kept, used, rows.len() / FIVE].map(|number| number as u32);
     memory.state.get_mut().copy_from_slice(&state);
     memory
 }
@@ -94,9 +95,9 @@ fn leaning(random: &mut Random, kept: usize, rows: &[u32]) -> Script {
         }
         script = script.diff(distance);
         let most = random.pick(&[1, 2, 4, 125]);
-        let tokens = random.between(0, most.min(rows.len() / 5));
+        let tokens = random.between(0, most.min(rows.len() / FIVE));
         for place in 0..tokens {
-            script = lean(random, script, rows[5 * place]);
+            script = lean(random, script, rows[FIVE * place]);
         }
         script = script.string(b"").char(random.allowed()).end();
     }

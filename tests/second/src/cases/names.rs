@@ -58,15 +58,14 @@ pub fn spoil(random: &mut Random, input: &mut Vec<u8>) {
 fn illumina(random: &mut Random, _: &[u8]) -> Vec<u8> {
     let tile = 1101 + random.below(3);
     let (x, y) = (random.below(32_768), random.below(100_000));
-    let padded = random.percent(30);
-    match padded {
-        true => format!("HS25_09827:2:{tile}:{x}:{y:05}#49/{}", random.between(1, 2)),
-        false => format!(
-            "A00253:148:HM7TYDSXX:{}:{tile}:{x}:{y}",
-            random.between(1, 4)
-        ),
-    }
-    .into_bytes()
+    let name = if random.percent(30) {
+        let mate = random.between(1, 2);
+        format!("HS25_09827:2:{tile}:{x}:{y:05}#49/{mate}")
+    } else {
+        let lane = random.between(1, 4);
+        format!("A00253:148:HM7TYDSXX:{lane}:{tile}:{x}:{y}")
+    };
+    name.into_bytes()
 }
 
 fn pacbio(random: &mut Random, _: &[u8]) -> Vec<u8> {
@@ -150,9 +149,12 @@ fn stepped(random: &mut Random, before: &[u8]) -> Vec<u8> {
 fn longest(random: &mut Random, _: &[u8]) -> Vec<u8> {
     let length = random.between(252, 254);
     let digits = random.pick(&[0, 50, 100]);
-    let byte = |_| match random.percent(digits) {
-        true => random.digit(),
-        false => b'Q',
+    let byte = |_| {
+        if random.percent(digits) {
+            random.digit()
+        } else {
+            b'Q'
+        }
     };
     (0..length).map(byte).collect()
 }
