@@ -1,7 +1,8 @@
 /* aqsurvel: the read names of a CRAM 4 draft block, read, written and checked.
  *
  * Link with libaqsurvel.a. Every function answers for any block, table, state or name handed to it; none allocates,
- * prints, blocks or keeps a pointer, and none uses memory other than what the caller lends for the call.
+ * prints, blocks or keeps a pointer, and none uses memory other than what the caller lends for the call and less than
+ * 1,024 bytes of stack.
  *
  * Lending
  *   A slice is two arguments: a pointer, then its length IN ELEMENTS. Length 0 may come with a null pointer.
@@ -9,6 +10,7 @@
  *   - alignment: a uint32_t pointer is aligned for uint32_t;
  *   - sizes: as many elements as the length says can be read (and written, where the pointer isn't const);
  *   - overlap: what a call may write lies in no other slice of the same call, and state/totals in none either.
+ *   state and totals are never null. Calls that are lent different memory may run at the same time.
  *
  * Tables (numbers are uint32_t)
  *   directory  2,580 numbers: for each position 0 to 128 ten spans, each a start and an end in bytes, in the order
@@ -22,8 +24,9 @@
  * Answers
  *   Every function but aq_refusal returns a uint64_t: the low 32 bits are the code, the high 32 bits the value.
  *   code 0          the call did what it is for; the value is said at each function
- *   code 1 to 23    refused, with the number of the table below; the value is the number of the name that goes with
- *                   it, or AQ_NO_NAME where none does
+ *   code 1 to 23    refused, with the number of the table below (14 to 23 are set aside); the value is the number of
+ *                   the name that goes with it, or AQ_NO_NAME where none does. 11 always has one: the number claimed,
+ *                   be it 0xFFFFFFFF
  *   code 256        done: every name of the block is read; the value is k
  *
  *   1   directory or cursor table of another length, a start above its end, an end above the bytes
@@ -40,8 +43,9 @@
  *   12  more than 65,536 names; in writing also a last name without byte 10
  *   13  kept numbers that point outside
  *
- *   A refused call leaves every slice, state and totals as they were; a refused aq_read_block keeps what opening and
- *   the reads before the refusal did.
+ *   A refused call leaves every slice, state and totals as they were. A refused aq_read_block keeps what opening and
+ *   the reads before the refusal did: the names below k can be claimed, and state[0] is the new block's count. Where
+ *   opening itself is refused (1 and 12), nothing changed, and the state still speaks of the block before.
  */
 #ifndef AQSURVEL_H
 #define AQSURVEL_H

@@ -1,5 +1,5 @@
 // The C boundary: each call of the library behind a C function, its answer as one number.
-// A refusal of memory that a call may write leaves it as it was, state and totals too.
+// A refused call leaves what it may write as it was, state and totals too; a whole block keeps what was done before the refusal.
 ghost use mathlib.Core.Path.{_≡_};
 ghost use Rattle.aqsurvel.specs.Answers.{packed, refusalNumber, readNumber, verdictNumber, stateIn, stateOut};
 ghost use Rattle.aqsurvel.specs.Calls.{opens, openCall, reads, readCall, blockCall, claimCall, writes, writeCall};

@@ -27,6 +27,9 @@ unfolding pick
 pick-holds P true x y f g = f refl
 pick-holds P false x y f g = g refl
 
+pub pick-either : {A : Type 0} (P : A → Type 0) (b : Bool) (x y : A) → P x → P y → P (pick b x y)
+pick-either P b x y p q = pick-holds P b x y (λ _. p) (λ _. q)
+
 pub pick-same : {A : Type 0} (b : Bool) (x y z w : A) → (b ≡ true → x ≡ z) → (b ≡ false → y ≡ w) → pick b x y ≡ pick b z w
 unfolding pick
 pick-same true x y z w f g = f refl

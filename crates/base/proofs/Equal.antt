@@ -1,7 +1,7 @@
--- "The same" is equality, and how the loop that compares from the end goes.
+-- "The same" is equality, and how the loop that compares all bytes goes.
 use Prim.Native.Nat.{ℕ, _+_, _≤_, _<_}
 use mathlib.Core.Path.{_≡_, refl, sym, ap, _∙_}
-use mathlib.Core.Bool.{true, false}
+use mathlib.Core.Bool.{Bool, true, false}
 use mathlib.Core.List.{List, [], _∷_}
 use native.Mathlib.Numerals.{add-one}
 use borrow.Author.Tests.{eqb-true, eq-eqb}
@@ -10,7 +10,7 @@ use lib.ListN.{length, drop, getD, drop-of-length-le}
 use lib.Seq.{drop-cons}
 use Rattle.base.specs.Choice.{both}
 use Rattle.base.specs.Same.{same}
-use Rattle.base.proofs.Choice.{both-true, both-of, fails, never}
+use Rattle.base.proofs.Choice.{both-true, both-of, both-all, both-both, fails, never}
 
 pub same-equal : (s t : List ℕ) → same s t ≡ true → s ≡ t
 unfolding same
@@ -43,14 +43,18 @@ module _ (s t : List ℕ) where
     pub other-byte : (getD s i 0 ≡ getD t i 0 → ⊥) → false ≡ same s t
     other-byte n = sym (same-differ s t (λ e. n (ap (λ (l : List ℕ). getD l i 0) e)))
 
+    pub same-none : length s ≤ i → length t ≤ i → same (drop i s) (drop i t) ≡ true
+    unfolding same
+    same-none h k = rw (drop-of-length-le s h, drop-of-length-le t k)
+
     step : i < length s → i < length t → same (drop i s) (drop i t) ≡ both (eqb (getD s i 0) (getD t i 0)) (same (drop (i + 1) s) (drop (i + 1) t))
     unfolding same
     step h k = rw (drop-cons s i 0 h, drop-cons t i 0 k, add-one)
 
-    -- the loop carries "the same from here on"
-    pub same-more : i < length s → i < length t → getD s i 0 ≡ getD t i 0 → same (drop (i + 1) s) (drop (i + 1) t) ≡ true → same (drop i s) (drop i t) ≡ true
-    same-more h k e f = step h k ∙ both-of (eq-eqb _ _ e) f
+    -- the loop carries "so far and the rest from here is the whole"
+    module _ (equal : Bool) (inv : both equal (same (drop i s) (drop i t)) ≡ same s t) where
+      pub same-turn : {next : Bool} → i < length s → i < length t → next ≡ both equal (eqb (getD s i 0) (getD t i 0)) → both next (same (drop (i + 1) s) (drop (i + 1) t)) ≡ same s t
+      same-turn h k q = rw (q, both-both, ← step h k) inv
 
-    pub same-none : length s ≤ i → length t ≤ i → same (drop i s) (drop i t) ≡ true
-    unfolding same
-    same-none h k = rw (drop-of-length-le s h, drop-of-length-le t k)
+      pub same-done : length s ≤ i → length t ≤ i → equal ≡ same s t
+      same-done h k = sym (both-all equal) ∙ (rw (same-none h k) at inv)

@@ -61,19 +61,27 @@ pub fn copy_within(buf: &mut [u8], from: usize, to: usize, at: usize)
     }
 }
 
-// The lengths first: bytes that agree up to the shorter one are not the same. Then from the end, where names that follow each other differ.
+// The lengths first: bytes that agree up to the shorter one are not the same. Then the last byte, where most names that
+// follow each other differ. From there on there is no way out: texts that come so far are mostly the same, and a loop
+// without one takes many bytes at once.
 pub fn same(a: &[u8], b: &[u8]) -> bool
     ensures { λ r. ⌜ r ≡ same (now (a .entry)) (now (b .entry)) ⌝ }
 {
     if a.len() != b.len() {
         return false;
     }
-    let mut n = a.len();
-    while 0 < n {
-        n -= 1;
-        if a[n] != b[n] {
-            return false;
-        }
+    let n = a.len();
+    if n == 0 {
+        return true;
     }
-    true
+    if a[n - 1] != b[n - 1] {
+        return false;
+    }
+    let mut equal = true;
+    let mut i: usize = 0;
+    while i < n {
+        equal = equal & (a[i] == b[i]);
+        i += 1;
+    }
+    equal
 }

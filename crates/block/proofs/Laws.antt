@@ -16,7 +16,6 @@ use Rattle.base.proofs.Choice.{both-true, both-of, both-left, both-right, took,
 use Rattle.base.proofs.Numbers.{lt-or-ge}
 use Rattle.block.specs.Block.{spanOf, startOf, endOf, cursorOf, spanSound, soundFrom, sound, inside, allInside, verdict, verdictOf, atEnd, allAtEnd, startsFrom, starts, Opening, opening, openOf}
 use Rattle.block.specs.declared.State.{State}
-use Rattle.block.specs.declared.Opened.{Opened}
 use Rattle.block.specs.declared.Opened.the-variants as answer
 use Rattle.block.specs.declared.Refusal.the-variants.{Plain}
 use Rattle.block.specs.declared.Verdict.{Verdict}
@@ -28,10 +27,6 @@ use Rattle.base.proofs.Every.{every-each, each-every, every-same}
 pub span-below : (p s : ℕ) → p ≤ 128 → s ≤ 9 → spanOf p s < 1290
 unfolding spanOf
 span-below p s h k = omega arith
-
-pub span-position : (p s q t : ℕ) → s ≤ 9 → t ≤ 9 → spanOf p s ≡ spanOf q t → p ≡ q
-unfolding spanOf
-span-position p s q t h k e = omega arith
 
 pub span-stream : (p s q t : ℕ) → s ≤ 9 → t ≤ 9 → spanOf p s ≡ spanOf q t → s ≡ t
 unfolding spanOf

@@ -4,7 +4,7 @@ ghost use mathlib.Core.Path.{_≡_};
 ghost use Prim.Native.Nat.{ℕ, _≤_, _<_, _+_, _*_, _^_};
 ghost use lib.Dec.{leb};
 ghost use lib.ListN.{length};
-ghost use Rattle.block.specs.Block.{spanOf, startOf, endOf, cursorOf, soundFrom, sound, allInside, verdict, verdictOf, allAtEnd, starts, opening, openOf};
+ghost use Rattle.block.specs.Block.{spanOf, endOf, cursorOf, soundFrom, sound, allInside, verdict, verdictOf, allAtEnd, starts, opening, openOf};
 use spans::Cursor;
 use spans::Position;
 
@@ -45,13 +45,6 @@ pub fn span_of(p: Position, stream: u32) -> usize
     ensures { λ r. ⌜ r ≡ spanOf (p .0) stream ⌝ }
 {
     (Block::STREAMS * p.0 + stream) as usize
-}
-
-pub fn start_of(dir: &[u32], span: usize) -> Cursor
-    requires { ⌜ (length (now dir) ≡ 2580) × (span < 1290) ⌝ }
-    ensures { λ r. ⌜ r .0 ≡ startOf (now (dir .entry)) span ⌝ }
-{
-    Cursor(dir[2 * span])
 }
 
 pub fn end_of(dir: &[u32], span: usize) -> Cursor
@@ -180,8 +173,6 @@ impl Block {
     pub const BYTES: u32 = 254;
     // Digits to a number written.
     pub const DIGITS: u32 = 9;
-
-    pub const POSITIONS: u32 = 129;
 
     pub const STREAMS: u32 = 10;
 

@@ -2,18 +2,18 @@
 use Prim.Native.Nat.{ℕ, _+_, _≤_, _<_}
 use mathlib.Core.Path.{_≡_, sym, ap, _∙_}
 use mathlib.Core.Bool.{true, false}
-use mathlib.Core.List.{List, [], _∷_, _++_}
+use mathlib.Core.List.{List, [], _∷_}
 use native.Mathlib.Omega.{arith}
 use borrow.Author.Needs.{needs}
 use borrow.Author.Tests.{le-leb}
 use lib.Dec.{T}
 use lib.ListN.{length, getD}
-use Rattle.base.specs.Choice.{pick, both}
+use Rattle.base.specs.Choice.{pick}
 use Rattle.base.specs.Memory.{part}
 use Rattle.base.proofs.Choice.{pick-true, pick-false, both-left, by-test, never}
 use Rattle.base.proofs.Table.{rule, follows}
 use Rattle.digits.specs.Digits.{isDigit, allDigits, padded, printed}
-use Rattle.base.proofs.Every.{every-none, every-one, every-append, every-part, every-weaker}
+use Rattle.base.proofs.Every.{every-none, every-one, every-part, every-weaker}
 use Rattle.base.proofs.Lists.{part-none}
 use Rattle.digits.proofs.Laws.{digit-range, all-digits-padded, all-digits-printed}
 use Rattle.classes.specs.Classes.{isAllowed, allAllowed, classOf, classTable}
@@ -72,9 +72,6 @@ allowed-class b f = by-test (isAllowed b) (λ a. a) (λ a. absurd (f (class-barr
 
 pub allowed-one : (b : ℕ) → allAllowed (b ∷ []) ≡ isAllowed b
 allowed-one b = every-one isAllowed b
-
-pub allowed-append : (l m : List ℕ) → allAllowed (l ++ m) ≡ both (allAllowed l) (allAllowed m)
-allowed-append l m = every-append isAllowed l m
 
 pub allowed-digits : (l : List ℕ) → allDigits l ≡ true → allAllowed l ≡ true
 allowed-digits l e = every-weaker isDigit isAllowed digit-allowed l e

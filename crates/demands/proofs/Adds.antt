@@ -6,19 +6,21 @@ use Rattle.kept.specs.Tables.{Kept}
 use Rattle.steps.specs.Source.{Source}
 use Rattle.reading.specs.declared.Answer.the-variants as answer
 use Rattle.reading.specs.Reads.{Outcome, kept, readOf}
+use Rattle.reading.proofs.Holding.{Holds}
 use Rattle.demands.specs.Adds.{Adds}
-use Rattle.demands.proofs.Lemmas.Ways.{Way, refuses, ends, keeps, way}
+use Rattle.demands.specs.Refusals.{Ready, ReadCase, refuses, ends, keeps}
+use Rattle.demands.proofs.Lemmas.Ways.{read-case, ready-holds}
 use Rattle.demands.proofs.Lemmas.Making.{made, room-each}
 use Rattle.demands.proofs.Lemmas.Adding.{kept-adds}
 
-adds-way : (s : Source) (m : Kept) (i : ℕ) (o : Outcome) → Way s m o → o .answer ≡ answer.Kept i → Adds s m i o
+adds-way : (s : Source) (m : Kept) (i : ℕ) (o : Outcome) → (Ready s m → Holds (s .bytes) (s .dir) m o) → ReadCase s m o → o .answer ≡ answer.Kept i → Adds s m i o
 unfolding kept
-adds-way s m i o (refuses r y) e = let z : _≡_ {A = ℕ} 0 1 = cc in absurd (omega arith)
-adds-way s m i o (ends r k a) e = let z : _≡_ {A = ℕ} 0 1 = cc in absurd (omega arith)
-adds-way s m i o (keeps x first rows d r k g f) e =
+adds-way s m i o h (refuses r y) e = let z : _≡_ {A = ℕ} 0 1 = cc in absurd (omega arith)
+adds-way s m i o h (ends r k a) e = let z : _≡_ {A = ℕ} 0 1 = cc in absurd (omega arith)
+adds-way s m i o h (keeps x first rows d r k g f) e =
     let n : m .state .names ≡ i = cc in
-    subst (λ (j : ℕ). Adds s m j (kept m x first rows d)) n (kept-adds s m x first rows d r (made s m x first rows d r g) (room-each m x f))
+    subst (λ (j : ℕ). Adds s m j (kept m x first rows d)) n (kept-adds s m x first rows d r (made s m r x first rows d g) (room-each m x f) (h r .opened))
 
 -- a read that keeps a name adds it and alters nothing else
 pub read-adds : (s : Source) (m : Kept) (i : ℕ) → readOf s m .answer ≡ answer.Kept i → Adds s m i (readOf s m)
-read-adds s m i e = adds-way s m i (readOf s m) (way s m) e
+read-adds s m i e = adds-way s m i (readOf s m) (ready-holds s m) (read-case s m) e

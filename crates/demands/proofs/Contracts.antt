@@ -3,11 +3,12 @@
 use Prim.Native.Nat.{ℕ}
 use mathlib.Core.Path.{_≡_, refl, sym, ap, _∙_, subst}
 use mathlib.Core.List.{List, [], _∷_}
+use lib.ListN.{length}
 use Rattle.block.specs.declared.Refusal.{Refusal}
 use Rattle.block.specs.declared.State.{State}
 use Rattle.block.specs.declared.Opened.the-variants as opened
-use Rattle.block.specs.Block.{Opening, openOf}
-use Rattle.kept.specs.Tables.{Kept}
+use Rattle.block.specs.Block.{Opening, opening, openOf}
+use Rattle.kept.specs.Tables.{Kept, keeping}
 use Rattle.steps.specs.Source.{Source}
 use Rattle.reading.specs.declared.Answer.the-variants as answer
 use Rattle.reading.specs.Reads.{Outcome, readOf}
@@ -16,12 +17,12 @@ use Rattle.claims.specs.declared.Verdict.{Verdict}
 use Rattle.claims.specs.Claims.{claimOf}
 use Rattle.writing.specs.declared.WriteAnswer.the-variants as written
 use Rattle.writing.specs.Writes.{Writing, writeOf}
-use Rattle.demands.specs.Runs.{Lent, left, Fresh, Call, after, run}
+use Rattle.demands.specs.Runs.{Lent, lent, left, Fresh, Call, after, run}
 use Rattle.demands.specs.Right.{Demand3}
 use Rattle.demands.specs.Traces.{Seen, nothing, a-read, a-claim}
-use Rattle.demands.proofs.Untouched.{Untouched, read-refused, open-refused}
+use Rattle.demands.proofs.Untouched.{Untouched, read-refused, open-refused, Whole, block-refused, block-reads}
 use Rattle.demands.proofs.Unwritten.{write-refused}
-use Rattle.demands.proofs.Demand3.{demand-3}
+use Rattle.demands.proofs.Demand3.{demand-3, block-demand-3}
 
 -- two outcomes that meet one equation are the same outcome
 pub one-outcome : {A : Type 0} {meant x y : A} → x ≡ meant → y ≡ meant → x ≡ y
@@ -57,6 +58,16 @@ pub writing-untouched : (input dir bytes : List ℕ) (w : Writing) → w ≡ wri
 writing-untouched input dir bytes w e =
     subst (λ (x : Writing). (r : Refusal) → x .answer ≡ written.Refused r → (x .directory ≡ dir) × (x .bytes ≡ bytes)) (sym e) (write-refused input dir bytes)
 
+pub block-untouched : (s : Source) (m : Kept) (count : ℕ) (o : Outcome) → o ≡ blockOf s m count
+    → (r : Refusal) → openOf (length (s .bytes)) (s .dir) count (s .cur) .answer ≡ opened.Refused r → (o .answer ≡ answer.Refused r) × Untouched s m o
+block-untouched s m count o e r f = subst (λ (x : Outcome). (x .answer ≡ answer.Refused r) × Untouched s m x) (sym e) (block-refused s m count r f)
+
+pub block-keeps : (s : Source) (m : Kept) (count : ℕ) (o : Outcome) → o ≡ blockOf s m count
+    → (st : State) (cur : List ℕ) → openOf (length (s .bytes)) (s .dir) count (s .cur) ≡ opening (opened.Fresh st) cur
+    → Whole (s .bytes) (s .dir) (lent cur (keeping st (m .text) (m .names) (m .rows))) o
+block-keeps s m count o e st cur f =
+    subst (Whole (s .bytes) (s .dir) (lent cur (keeping st (m .text) (m .names) (m .rows)))) (sym e) (block-reads s m count st cur f)
+
 -- what was seen of calls that meet their contracts is what the definitions run to
 pub seen-run : (bytes dir : List ℕ) (l z : Lent) (calls : List Call) → Seen bytes dir l calls z → z ≡ run bytes dir l calls
 unfolding run after
@@ -68,3 +79,13 @@ seen-run bytes dir l z (c ∷ cs) (a-claim a b number claim v calls e t) = seen-
 pub demand-3-seen : (bytes dir : List ℕ) (count : ℕ) (l z : Lent) → Fresh bytes dir count l → (calls : List Call) → Seen bytes dir l calls z → Demand3 bytes dir l z
 demand-3-seen bytes dir count l z f calls t =
     subst (λ (x : Lent). Demand3 bytes dir l x) (sym (seen-run bytes dir l z calls t)) (demand-3 bytes dir count l f calls)
+
+-- and from a whole-block read on
+pub block-demand-3-seen : (s : Source) (m : Kept) (count : ℕ) (st : State) (cur : List ℕ)
+    → openOf (length (s .bytes)) (s .dir) count (s .cur) ≡ opening (opened.Fresh st) cur
+    → (o : Outcome) → o ≡ blockOf s m count → (z : Lent) (calls : List Call) → Seen (s .bytes) (s .dir) (left o) calls z
+    → Demand3 (s .bytes) (s .dir) (lent cur (keeping st (m .text) (m .names) (m .rows))) z
+block-demand-3-seen s m count st cur e o f z calls t =
+    subst (Demand3 (s .bytes) (s .dir) (lent cur (keeping st (m .text) (m .names) (m .rows))))
+    (sym (seen-run (s .bytes) (s .dir) (left o) z calls t ∙ ap (λ (x : Outcome). run (s .bytes) (s .dir) (left x) calls) f))
+    (block-demand-3 s m count st cur e calls)

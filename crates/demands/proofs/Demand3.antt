@@ -1,7 +1,7 @@
 -- Demand 3: from a fresh start on one block, after any sequence of reads and claims, refused ones too.
 use Prim.Native.Nat.{ℕ, suc, _+_, _-_, _<_}
 use mathlib.Core.Path.{_≡_, refl, sym, ap, _∙_, subst}
-use mathlib.Core.List.{List, [], _∷_}
+use mathlib.Core.List.{List, [], _∷_, _++_}
 use native.Mathlib.Omega.{arith}
 use native.Mathlib.Nat.{add-zero}
 use lib.ListN.{length, replicate}
@@ -25,22 +25,22 @@ use Rattle.claims.specs.Claims.{nameText}
 use Rattle.claims.proofs.Laws.{Answerable, confirmed-of, denied-of, eleven-of, confirmed, thirteen, thirteen-at}
 use Rattle.demands.specs.Runs.{Lent, lent, read, left, Reads, Keeps, none, next, Fresh, Call, reading, claiming, after, run, claimed, nameAt}
 use Rattle.demands.specs.Right.{Demand3, Right, NameRight, Judged, Sane, left-over, by-rules}
-use Rattle.demands.specs.Refusals.{by-rule, by-memory, Why, unsound, uncounted, outside, unread, unnamed}
-use Rattle.demands.proofs.Refusals.{read-why}
-use Rattle.demands.proofs.Lemmas.Ways.{Way, refuses, ends, keeps, way}
-use Rattle.demands.proofs.Lemmas.Keeping.{fresh-right, after-right}
+use Rattle.demands.specs.Refusals.{Why, unsound, uncounted, outside, unread, unnamed, ReadCase, refuses, ends, keeps}
+use Rattle.demands.proofs.Refusals.{read-why, by-reason}
+use Rattle.demands.proofs.Lemmas.Ways.{read-case}
+use Rattle.demands.proofs.Lemmas.Keeping.{Sure, sure-right, fresh-sure, after-sure}
 use Rattle.demands.proofs.Lemmas.Later.{later-adds, text-later}
 use Rattle.demands.proofs.Adds.{read-adds}
 use Rattle.demands.proofs.Untouched.{Whole, block-reads}
 
-run-right : (bytes dir : List ℕ) (cs : List Call) (l : Lent) → Right bytes dir l → Right bytes dir (run bytes dir l cs)
+run-sure : (bytes dir : List ℕ) (cs : List Call) (l : Lent) → Sure bytes dir l → Sure bytes dir (run bytes dir l cs)
 unfolding run
-run-right bytes dir [] l r = r
-run-right bytes dir (c ∷ cs) l r = run-right bytes dir cs (after bytes dir l c) (after-right bytes dir l c r)
+run-sure bytes dir [] l s = s
+run-sure bytes dir (c ∷ cs) l s = run-sure bytes dir cs (after bytes dir l c) (after-sure bytes dir l c s)
 
 -- at all times: the counts and cursors are sound, every kept name's tokens, printed end to end, are that name, and each later name's reference points to a lower number
 pub always-right : (bytes dir : List ℕ) (count : ℕ) (l : Lent) → Fresh bytes dir count l → (calls : List Call) → Right bytes dir (run bytes dir l calls)
-always-right bytes dir count l f calls = run-right bytes dir calls l (fresh-right bytes dir count l f)
+always-right bytes dir count l f calls = sure-right bytes dir (run bytes dir l calls) (run-sure bytes dir calls l (fresh-sure bytes dir count l f))
 
 -- claims over tables that are right
 right-judged : (bytes dir : List ℕ) (l : Lent) → Right bytes dir l → (number : ℕ) (claim : List ℕ) → Judged l number claim
@@ -67,15 +67,15 @@ pub always-judged : (bytes dir : List ℕ) (count : ℕ) (l : Lent) → Fresh by
 always-judged bytes dir count l f calls number claim = right-judged bytes dir (run bytes dir l calls) (always-right bytes dir count l f calls) number claim
 
 -- a read over what is lent keeps a name, or leaves everything as it was
-by-way : {P : Type 0} (s : Source) (m : Kept) (o : Outcome) → Way s m o → ((i : ℕ) → o .answer ≡ answer.Kept i → P) → (left o ≡ lent (s .cur) m → P) → P
+by-way : {P : Type 0} (s : Source) (m : Kept) (o : Outcome) → ReadCase s m o → ((i : ℕ) → o .answer ≡ answer.Kept i → P) → (left o ≡ lent (s .cur) m → P) → P
 unfolding left kept
 by-way s m o (refuses r y) f g = g refl
 by-way s m o (ends a b c) f g = g refl
 by-way s m o (keeps x first rows d a b c e) f g = f (m .state .names) refl
 
-read-or-not : {P : Type 0} (bytes dir : List ℕ) (l : Lent) → ((i : ℕ) → read bytes dir l .answer ≡ answer.Kept i → P) → (left (read bytes dir l) ≡ l → P) → P
+pub read-or-not : {P : Type 0} (bytes dir : List ℕ) (l : Lent) → ((i : ℕ) → read bytes dir l .answer ≡ answer.Kept i → P) → (left (read bytes dir l) ≡ l → P) → P
 unfolding read
-read-or-not bytes dir l f g = by-way (source bytes dir (l .cur)) (l .kept) (readOf (source bytes dir (l .cur)) (l .kept)) (way _ _) f g
+read-or-not bytes dir l f g = by-way (source bytes dir (l .cur)) (l .kept) (readOf (source bytes dir (l .cur)) (l .kept)) (read-case _ _) f g
 
 -- the calls that kept nothing leave no mark: the memory is that of as many reads in a row as kept a name
 pub only-kept : (bytes dir : List ℕ) (calls : List Call) (l : Lent) → Reads bytes dir l (run bytes dir l calls)
@@ -155,15 +155,16 @@ refusal-right bytes dir l r q (unsound a) = absurd (never (sym a ∙ open-sound 
 refusal-right bytes dir l r q (uncounted a b) = absurd (never (sym b ∙ counts-of (l .kept) (r .counts)))
 refusal-right bytes dir l r q (outside a b c) = absurd (never (sym c ∙ open-inside bytes dir (l .cur) (r .opened)))
 refusal-right bytes dir l r q (unread a b c) = left-over b
-refusal-right bytes dir l r q (unnamed n a b (by-rule k c)) = by-rules n c
-refusal-right bytes dir l r q (unnamed n a b (by-memory d c f)) =
+refusal-right bytes dir l r q (unnamed k a b c) =
+    by-reason (source bytes dir (l .cur)) (l .kept) k c (by-rules k)
+    (λ d h f e.
     let i : ℕ = l .kept .state .names - d in
-    let n : NameRight (l .kept) i = r .names i (omega arith) in
+    let n : NameRight (l .kept) i = r .names i (omega (arith, h .0, h .1)) in
     absurd (never (sym f ∙ earlier-fits-of (l .kept) i (record {
       text = n .text;
       rows = n .rows;
       each = λ j a b. r .rows j (omega (arith, n .rows .ends)) .fits;
-    })))
+    }))))
 
 -- from a fresh start no read meets 1 or 13
 pub always-sane : (bytes dir : List ℕ) (count : ℕ) (l : Lent) → Fresh bytes dir count l → (calls : List Call) (q : Refusal)
@@ -181,11 +182,29 @@ demand-3 bytes dir count l f calls = record {
   refusals = always-sane bytes dir count l f calls;
 }
 
--- what a whole-block read leaves is right too
-pub block-right : (s : Source) (m : Kept) (count : ℕ) (st : State) (cur : List ℕ)
-    → openOf (length (s .bytes)) (s .dir) count (s .cur) ≡ opening (opened.Fresh st) cur → Right (s .bytes) (s .dir) (left (blockOf s m count))
-block-right s m count st cur e =
+-- calls after calls
+run-then : (bytes dir : List ℕ) (before calls : List Call) (l : Lent) → run bytes dir l (before ++ calls) ≡ run bytes dir (run bytes dir l before) calls
+unfolding run
+run-then bytes dir [] calls l = refl
+run-then bytes dir (c ∷ cs) calls l = run-then bytes dir cs calls (after bytes dir l c)
+
+-- demand 3 from a whole-block read on: once its opening has accepted the block, what it leaves is what reads from that fresh start leave,
+-- and so is what any sequence of reads and claims leaves that follows it
+pub block-demand-3 : (s : Source) (m : Kept) (count : ℕ) (st : State) (cur : List ℕ)
+    → openOf (length (s .bytes)) (s .dir) count (s .cur) ≡ opening (opened.Fresh st) cur
+    → (calls : List Call)
+    → Demand3 (s .bytes) (s .dir) (lent cur (keeping st (m .text) (m .names) (m .rows))) (run (s .bytes) (s .dir) (left (blockOf s m count)) calls)
+block-demand-3 s m count st cur e calls =
     let l : Lent = lent cur (keeping st (m .text) (m .names) (m .rows)) in
     let b : Whole (s .bytes) (s .dir) l (blockOf s m count) = block-reads s m count st cur e in
-    subst (Right (s .bytes) (s .dir)) (plain-reads (s .bytes) (s .dir) (b .names) l (b .last) (b .before) ∙ sym (b .stays))
-    (always-right (s .bytes) (s .dir) count l (record { old = s .cur; state = st; opens = e; begins = refl }) (replicate (b .names) reading))
+    let same : run (s .bytes) (s .dir) l (replicate (b .names) reading) ≡ left (blockOf s m count) =
+    plain-reads (s .bytes) (s .dir) (b .names) l (b .last) (b .before) ∙ sym (b .stays) in
+    subst (Demand3 (s .bytes) (s .dir) l)
+    (run-then (s .bytes) (s .dir) (replicate (b .names) reading) calls l ∙ ap (λ (z : Lent). run (s .bytes) (s .dir) z calls) same)
+    (demand-3 (s .bytes) (s .dir) count l (record { old = s .cur; state = st; opens = e; begins = refl }) (replicate (b .names) reading ++ calls))
+
+-- so what it leaves is right
+pub block-right : (s : Source) (m : Kept) (count : ℕ) (st : State) (cur : List ℕ)
+    → openOf (length (s .bytes)) (s .dir) count (s .cur) ≡ opening (opened.Fresh st) cur → Right (s .bytes) (s .dir) (left (blockOf s m count))
+unfolding run
+block-right s m count st cur e = block-demand-3 s m count st cur e [] .right

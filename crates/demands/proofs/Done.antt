@@ -16,14 +16,14 @@ use Rattle.reading.specs.declared.Answer.{Answer}
 use Rattle.reading.specs.declared.Answer.the-variants as answer
 use Rattle.reading.specs.Reads.{Outcome, outcome, plain, kept, nextOf, readOf}
 use Rattle.reading.specs.Blocks.{goOn, readsFrom, openedOf, blockOf}
-use Rattle.demands.specs.Refusals.{Ready}
-use Rattle.demands.proofs.Lemmas.Ways.{ready-reads, Way, refuses, ends, keeps, way, fresh-ready}
+use Rattle.demands.specs.Refusals.{Ready, ReadCase, refuses, ends, keeps}
+use Rattle.demands.proofs.Lemmas.Ways.{ready-reads, read-case, fresh-ready}
 
 -- every cursor is at its end
 abbrev pub AtEnd : List ℕ → List ℕ → Type 0
 AtEnd dir cur = (j : ℕ) → j < 1290 → cursorOf cur j ≡ endOf dir j
 
-done-way : (s : Source) (m : Kept) (o : Outcome) → Way s m o → o .answer ≡ answer.Done → (m .state .names ≡ m .state .count) × AtEnd (s .dir) (s .cur)
+done-way : (s : Source) (m : Kept) (o : Outcome) → ReadCase s m o → o .answer ≡ answer.Done → (m .state .names ≡ m .state .count) × AtEnd (s .dir) (s .cur)
 unfolding kept
 done-way s m o (refuses r y) e = let z : _≡_ {A = ℕ} 0 1 = cc in absurd (omega arith)
 done-way s m o (ends r k a) e = (k, at-end-each (s .dir) (s .cur) a)
@@ -31,7 +31,7 @@ done-way s m o (keeps x first rows d r k g f) e = let z : _≡_ {A = ℕ} 0 1 = 
 
 -- "done" means that all names are read and every cursor is at its end
 pub done-means : (s : Source) (m : Kept) → readOf s m .answer ≡ answer.Done → (m .state .names ≡ m .state .count) × AtEnd (s .dir) (s .cur)
-done-means s m e = done-way s m (readOf s m) (way s m) e
+done-means s m e = done-way s m (readOf s m) (read-case s m) e
 
 -- all names read and every cursor at its end: "done"
 pub done-when : (s : Source) (m : Kept) → Ready s m → m .state .names ≡ m .state .count → AtEnd (s .dir) (s .cur) → readOf s m ≡ outcome answer.Done (s .cur) m

@@ -4,8 +4,7 @@ pub mod Traces
 pub mod Ways
 pub mod Moves
 pub mod Writes
-pub mod Spelling
-pub mod Laying
+pub mod Printing
 pub mod Making
 pub mod Adding
 pub mod Later

@@ -4,7 +4,7 @@ pub mod Lemmas
 pub mod Bench
 -- demand 1: a refused call alters nothing
 pub mod Untouched
--- each refusal of a read where the words apply
+-- each refusal exactly where the words apply
 pub mod Refusals
 -- "done" and 10
 pub mod Done
@@ -16,3 +16,5 @@ pub mod Demand3
 pub mod Unwritten
 -- one outcome only, and the demands of programs that meet the contracts
 pub mod Contracts
+-- demands 1 and 3 at the C boundary
+pub mod Boundary

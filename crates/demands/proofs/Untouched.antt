@@ -19,20 +19,21 @@ use Rattle.reading.specs.declared.Answer.the-variants as answer
 use Rattle.reading.specs.Reads.{Outcome, outcome, readOf, kept}
 use Rattle.reading.specs.Blocks.{goOn, readsFrom, openedOf, blockOf}
 use Rattle.demands.specs.Runs.{Lent, lent, read, left, Keeps, none, next}
-use Rattle.demands.proofs.Lemmas.Ways.{Way, refuses, ends, keeps, way}
+use Rattle.demands.specs.Refusals.{ReadCase, refuses, ends, keeps}
+use Rattle.demands.proofs.Lemmas.Ways.{read-case}
 
 -- the cursors, the state and all buffers are as they were
 pub record Untouched (s : Source) (m : Kept) (o : Outcome) : Type 0 where
   pub cursors : o .cur ≡ s .cur
   pub memory : o .kept ≡ m
 
-refused-way : (s : Source) (m : Kept) (r : Refusal) (o : Outcome) → Way s m o → o .answer ≡ answer.Refused r → Untouched s m o
+refused-way : (s : Source) (m : Kept) (r : Refusal) (o : Outcome) → ReadCase s m o → o .answer ≡ answer.Refused r → Untouched s m o
 unfolding kept
 refused-way s m r o (refuses q y) e = record { cursors = refl; memory = refl }
 refused-way s m r o (ends a b c) e = record { cursors = refl; memory = refl }
 refused-way s m r o (keeps x first rows d a b c f) e = let z : _≡_ {A = ℕ} 0 1 = cc in absurd (omega arith)
 
-done-way : (s : Source) (m : Kept) (o : Outcome) → Way s m o → o .answer ≡ answer.Done → Untouched s m o
+done-way : (s : Source) (m : Kept) (o : Outcome) → ReadCase s m o → o .answer ≡ answer.Done → Untouched s m o
 unfolding kept
 done-way s m o (refuses q y) e = record { cursors = refl; memory = refl }
 done-way s m o (ends a b c) e = record { cursors = refl; memory = refl }
@@ -40,11 +41,11 @@ done-way s m o (keeps x first rows d a b c f) e = let z : _≡_ {A = ℕ} 0 1 = 
 
 -- a read that is refused leaves everything as it was
 pub read-refused : (s : Source) (m : Kept) (r : Refusal) → readOf s m .answer ≡ answer.Refused r → Untouched s m (readOf s m)
-read-refused s m r e = refused-way s m r (readOf s m) (way s m) e
+read-refused s m r e = refused-way s m r (readOf s m) (read-case s m) e
 
 -- and so does one that finds the block at its end
 pub read-done : (s : Source) (m : Kept) → readOf s m .answer ≡ answer.Done → Untouched s m (readOf s m)
-read-done s m e = done-way s m (readOf s m) (way s m) e
+read-done s m e = done-way s m (readOf s m) (read-case s m) e
 
 -- opening that is refused leaves the cursors as they were; it is handed no buffer
 pub open-refused : (n : ℕ) (dir : List ℕ) (count : ℕ) (cur : List ℕ) (r : Refusal)
@@ -84,7 +85,7 @@ module _ (bytes dir : List ℕ) where
   turn : (f : ℕ) (rest : Outcome → Outcome)
       → ((o : Outcome) → o .kept .state .names + f ≡ o .kept .state .count + 1 → o .kept .state .names ≤ o .kept .state .count → Whole bytes dir (left o) (rest o))
       → (l : Lent) → l .kept .state .names + suc f ≡ l .kept .state .count + 1 → l .kept .state .names ≤ l .kept .state .count
-      → (o : Outcome) → read bytes dir l ≡ o → Way (source bytes dir (l .cur)) (l .kept) o → Whole bytes dir l (goOn rest o (o .answer))
+      → (o : Outcome) → read bytes dir l ≡ o → ReadCase (source bytes dir (l .cur)) (l .kept) o → Whole bytes dir l (goOn rest o (o .answer))
   unfolding goOn left kept
   turn f rest ih l h k o e (refuses q y) = the-last l o e refl (λ i z. let y : _≡_ {A = ℕ} 0 1 = cc in omega arith)
   turn f rest ih l h k o e (ends a b c) = the-last l o e refl (λ i z. let y : _≡_ {A = ℕ} 0 1 = cc in omega arith)
@@ -95,7 +96,7 @@ module _ (bytes dir : List ℕ) where
       → Whole bytes dir (left o) (readsFrom bytes dir f o)
   unfolding readsFrom read left
   all-reads zero o h k = absurd (omega arith)
-  all-reads (suc f) o h k = turn f (readsFrom bytes dir f) (all-reads f) (left o) h k (read bytes dir (left o)) refl (way _ _)
+  all-reads (suc f) o h k = turn f (readsFrom bytes dir f) (all-reads f) (left o) h k (read bytes dir (left o)) refl (read-case _ _)
 
 -- a whole-block read whose opening is refused leaves everything as it was
 pub block-refused : (s : Source) (m : Kept) (count : ℕ) (r : Refusal) → openOf (length (s .bytes)) (s .dir) count (s .cur) .answer ≡ opened.Refused r

@@ -7,3 +7,4 @@ pub mod Refusals
 pub mod Right
 pub mod Adds
 pub mod Traces
+pub mod Boundary

@@ -1,39 +1,131 @@
--- When a read is refused, and with which number.
-use Prim.Native.Nat.{ℕ, _-_, _≤_}
+-- What opening, writing and a read come to, each case with its cause. The causes leave none out, and no two that come to different outcomes hold together:
+-- proofs/Refusals proves of each table that the outcome has its cause, and that the cause gives the outcome.
+use Prim.Native.Nat.{ℕ, _-_, _+_, _≤_, _<_}
 use mathlib.Core.Path.{_≡_}
 use mathlib.Core.Bool.{true, false}
-use lib.ListN.{length}
+use mathlib.Core.List.{List, []}
+use lib.ListN.{length, getD}
+use Rattle.base.specs.Memory.{part}
+use Rattle.spans.specs.declared.Cursor.{Cursor}
+use Rattle.spans.specs.declared.NextByte.the-variants as byte
+use Rattle.spans.specs.declared.NextFour.the-variants as four
 use Rattle.block.specs.declared.Refusal.{Refusal}
 use Rattle.block.specs.declared.Refusal.the-variants as refusal
-use Rattle.block.specs.Block.{sound, allInside, allAtEnd}
+use Rattle.block.specs.declared.Opened.the-variants as opened
+use Rattle.block.specs.Block.{Opening, opening, sound, starts, state, allInside, allAtEnd}
 use Rattle.block.specs.Open.{Open}
 use Rattle.kept.specs.Tables.{Kept}
 use Rattle.kept.specs.Judgement.{counts, earlierFits}
-use Rattle.kept.specs.Inside.{Counted}
-use Rattle.steps.specs.Source.{Source}
+use Rattle.kept.specs.Inside.{Counted, EntryInside}
+use Rattle.steps.specs.Source.{Source, Earlier, byteIn, fourIn}
+use Rattle.names.specs.Names.{Draft, draft, named, refused, nameOf}
+use Rattle.reading.specs.declared.Answer.the-variants as answer
+use Rattle.reading.specs.Reads.{Outcome, outcome, roomFor, kept, headPast, rowsOf, none, entryBack}
+use Rattle.laying.specs.Puts.{totalOf, directoryOf, bytesOf}
+use Rattle.writing.specs.declared.WriteAnswer.the-variants as written
+use Rattle.writing.specs.Names.{namesOf, ended, goodName}
+use Rattle.writing.specs.NamePuts.{putsOf}
+use Rattle.writing.specs.Writes.{Writing, writing}
+
+-- opening: 1, 12
+pub data OpenCase (len : ℕ) (dir : List ℕ) (count : ℕ) (cur : List ℕ) : Opening → Type 0 where
+  opens-1 : sound len dir cur ≡ false → OpenCase len dir count cur (opening (opened.Refused (refusal.Plain 1)) cur)
+  opens-12 : sound len dir cur ≡ true → 65536 < count → OpenCase len dir count cur (opening (opened.Refused (refusal.Plain 12)) cur)
+  opens : sound len dir cur ≡ true → count ≤ 65536 → OpenCase len dir count cur (opening (opened.Fresh (state count 0 0 0)) (starts dir))
+
+-- no more names than 65,536, the last one with its byte 10
+abbrev pub Countable : List ℕ → Type 0
+Countable input = (ended input ≡ true) × (length (namesOf input) ≤ 65536)
+
+-- name n is the first bad one
+pub record FirstBad (names : List (List ℕ)) (n : ℕ) : Type 0 where
+  pub there : n < length names
+  pub bad : goodName (getD names n []) ≡ false
+  pub before : (i : ℕ) → i < n → goodName (getD names i []) ≡ true
+
+-- no name is bad
+abbrev pub AllGood : List (List ℕ) → Type 0
+AllGood names = (i : ℕ) → i < length names → goodName (getD names i []) ≡ true
+
+-- writing: wrong directory length 1, then 12, the first bad name's 8, then 9
+pub data WriteCase (input dir bytes : List ℕ) : Writing → Type 0 where
+  writes-1 : (length dir ≡ 2580 → ⊥) → WriteCase input dir bytes (writing (written.Refused (refusal.Plain 1)) dir bytes)
+  writes-12 : length dir ≡ 2580 → (Countable input → ⊥) → WriteCase input dir bytes (writing (written.Refused (refusal.Plain 12)) dir bytes)
+  writes-8 : (n : ℕ) → length dir ≡ 2580 → Countable input → FirstBad (namesOf input) n → WriteCase input dir bytes (writing (written.Refused (refusal.At 8 n)) dir bytes)
+  writes-9 : length dir ≡ 2580 → Countable input → AllGood (namesOf input) → length bytes < totalOf (putsOf (namesOf input))
+      → WriteCase input dir bytes (writing (written.Refused (refusal.Plain 9)) dir bytes)
+  writes : length dir ≡ 2580 → Countable input → AllGood (namesOf input) → totalOf (putsOf (namesOf input)) ≤ length bytes
+      → WriteCase input dir bytes
+      (writing (written.Written (length (namesOf input)) (totalOf (putsOf (namesOf input)))) (directoryOf (putsOf (namesOf input))) (bytesOf (putsOf (namesOf input)) bytes))
 
 -- spans, counts and cursors are sound
 pub record Ready (s : Source) (m : Kept) : Type 0 where
   pub opened : Open (s .bytes) (s .dir) (s .cur)
   pub counts : Counted m
 
+-- DUP is 5, DIFF is 6; so are the streams of their distances
+pub data IsHead : ℕ → Type 0 where
+  is-dup : IsHead 5
+  is-diff : IsHead 6
+
+-- position 0 gives this type and this distance
+pub record Heads (s : Source) (t d : ℕ) : Type 0 where
+  pub past : Cursor
+  pub behind : Cursor
+  pub type : byteIn s 0 0 ≡ byte.Value t past
+  pub distance : fourIn s 0 t ≡ four.Value d behind
+
 -- rule 2 for DUP and for every later name
 abbrev pub Back : ℕ → ℕ → Type 0
 Back n d = (1 ≤ d) × (d ≤ n)
 
--- what the rules and the room can refuse: 2 to 9
-abbrev pub ByRule : ℕ → Type 0
-ByRule r = (2 ≤ r) × (r ≤ 9)
+-- rule 2: which distances name n may have with which type
+pub data Rule2 (n : ℕ) : ℕ → ℕ → Type 0 where
+  dup-back : (d : ℕ) → Back n d → Rule2 n 5 d
+  diff-none : n ≡ 0 → Rule2 n 6 0
+  diff-back : (d : ℕ) → Back n d → Rule2 n 6 d
 
--- why the name being read is refused: by the rules or for want of room; or because the earlier name's entry or rows point outside
-pub data Reason (m : Kept) : ℕ → Type 0 where
-  by-rule : (r : ℕ) → ByRule r → Reason m r
-  by-memory : (d : ℕ) → Back (m .state .names) d → earlierFits m (m .state .names - d) ≡ false → Reason m 13
+-- what position 0 is refused for: no type, another type, no distance, or one outside rule 2
+pub data HeadStop (s : Source) (n : ℕ) : ℕ → Type 0 where
+  no-type : byteIn s 0 0 ≡ byte.Short → HeadStop s n 2
+  no-head : (t : ℕ) (c : Cursor) → byteIn s 0 0 ≡ byte.Value t c → (t ≡ 5 → ⊥) → (t ≡ 6 → ⊥) → HeadStop s n 3
+  no-distance : (t : ℕ) (c : Cursor) → byteIn s 0 0 ≡ byte.Value t c → IsHead t → fourIn s 0 t ≡ four.Short → HeadStop s n 2
+  off-rule : (t d : ℕ) → Heads s t d → IsHead t → (Rule2 n t d → ⊥) → HeadStop s n 4
 
--- why a read is refused
+-- the rows that a DIFF goes by: none for name 0, else those of the name so far back, whose entry and rows all point inside
+pub data Leans (s : Source) (m : Kept) : ℕ → Earlier → Type 0 where
+  on-none : Heads s 6 0 → m .state .names ≡ 0 → Leans s m 0 (none m)
+  on-earlier : (d : ℕ) → Heads s 6 d → Back (m .state .names) d → EntryInside (m .state) (m .rows) (entryBack m d) → Leans s m d (rowsOf m (entryBack m d))
+
+-- how a name comes about, by rule 3 or 4: its text, rows and cursors, its first row, number of rows and distance
+pub data Origin (s : Source) (m : Kept) : Draft → ℕ → ℕ → ℕ → Type 0 where
+  copied : (d : ℕ) → Heads s 5 d → Back (m .state .names) d → EntryInside (m .state) (m .rows) (entryBack m d)
+      → Origin s m (draft (part (m .text) (entryBack m d .start) (entryBack m d .start + entryBack m d .length)) [] 0 (headPast (s .cur) 5)) (entryBack m d .first) (entryBack m d .rows) d
+  walked : (x : Draft) (d : ℕ) (e : Earlier) → Leans s m d e → nameOf s e (m .state .text) (headPast (s .cur) 6) ≡ named x → Origin s m x (m .state .rows) (x .count) d
+
+-- why the name being read is refused: its head; 13, after 4, for the earlier name's entry or rows, for DUP too;
+-- what the walk over its tokens meets first (2, 3, 5 to 8); and last, the name itself being fine, 9
+pub data Reason (s : Source) (m : Kept) : ℕ → Type 0 where
+  by-head : (r : ℕ) → HeadStop s (m .state .names) r → Reason s m r
+  by-memory : (t d : ℕ) → Heads s t d → IsHead t → Back (m .state .names) d → earlierFits m (m .state .names - d) ≡ false → Reason s m 13
+  by-token : (r d : ℕ) (e : Earlier) → Leans s m d e → nameOf s e (m .state .text) (headPast (s .cur) 6) ≡ refused r → Reason s m r
+  by-room : (x : Draft) (first rows d : ℕ) → Origin s m x first rows d → roomFor m x ≡ false → Reason s m 9
+
+-- why a read is refused: 1; 13 for the counts and cursors; 10; then the name
 pub data Why (s : Source) (m : Kept) : Refusal → Type 0 where
   unsound : sound (length (s .bytes)) (s .dir) (s .cur) ≡ false → Why s m (refusal.Plain 1)
   uncounted : sound (length (s .bytes)) (s .dir) (s .cur) ≡ true → counts m ≡ false → Why s m (refusal.Plain 13)
   outside : sound (length (s .bytes)) (s .dir) (s .cur) ≡ true → counts m ≡ true → allInside (s .dir) (s .cur) ≡ false → Why s m (refusal.Plain 13)
   unread : Ready s m → m .state .names ≡ m .state .count → allAtEnd (s .dir) (s .cur) ≡ false → Why s m (refusal.Plain 10)
-  unnamed : (r : ℕ) → Ready s m → (m .state .names ≡ m .state .count → ⊥) → Reason m r → Why s m (refusal.At r (m .state .names))
+  unnamed : (r : ℕ) → Ready s m → (m .state .names ≡ m .state .count → ⊥) → Reason s m r → Why s m (refusal.At r (m .state .names))
+
+-- a read
+pub data ReadCase (s : Source) (m : Kept) : Outcome → Type 0 where
+  refuses : (r : Refusal) → Why s m r → ReadCase s m (outcome (answer.Refused r) (s .cur) m)
+  ends : Ready s m → m .state .names ≡ m .state .count → allAtEnd (s .dir) (s .cur) ≡ true → ReadCase s m (outcome answer.Done (s .cur) m)
+  keeps : (x : Draft) (first rows d : ℕ) → Ready s m → (m .state .names ≡ m .state .count → ⊥) → Origin s m x first rows d → roomFor m x ≡ true
+      → ReadCase s m (kept m x first rows d)
+
+-- the numbers that the rules and the room can refuse with: 2 to 9
+abbrev pub ByRule : ℕ → Type 0
+ByRule r = (2 ≤ r) × (r ≤ 9)

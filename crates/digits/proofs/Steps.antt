@@ -1,7 +1,6 @@
 -- The turns of this crate's loops: the rest from here on is the whole.
 use Prim.Native.Nat.{ℕ, suc, _+_, _-_, _*_, _/_, _%_, _^_, _≤_, _<_}
 use mathlib.Core.Path.{_≡_, sym, ap, _∙_}
-use mathlib.Core.Bool.{true}
 use mathlib.Core.List.{List, [], _∷_, _++_, reverse}
 use native.Mathlib.Omega.{arith}
 use native.Mathlib.Numerals.{add-one}
@@ -10,11 +9,9 @@ use lib.ListN.{length, getD, take, set, length-reverse}
 use lib.Seq.{paste, paste-suc, take-at, length-take-le, getD-take}
 use Rattle.base.specs.Memory.{written, part}
 use Rattle.base.proofs.Memory.{one-written, length-written, written-none}
-use Rattle.base.proofs.Choice.{both-true}
-use Rattle.digits.specs.Digits.{low, padded, digitCount, printed, isDigit, allDigits, valueFrom}
-use Rattle.base.proofs.Every.{every-part}
+use Rattle.digits.specs.Digits.{low, padded, digitCount, printed, valueFrom}
 use Rattle.base.proofs.Lists.{written-first, written-last, part-first, part-none, getD-reverse}
-use Rattle.digits.proofs.Laws.{length-low, length-padded, padded-more, padded-none, count-one, count-more, count-ten, digit-range}
+use Rattle.digits.proofs.Laws.{length-low, length-padded, padded-more, padded-none, count-one, count-more, count-ten}
 
 -- digits from the back
 module _ (m k : ℕ) (s all : List ℕ) (e : written s k (low (digitCount m) m) ≡ all) where
@@ -66,16 +63,9 @@ pub padded-last : (m k at : ℕ) (d all : List ℕ) → k ≡ 0 → written d at
 padded-last m k at d all e q = sym (written-none d at []) ∙ ap (written d at) (sym (ap (padded m) e ∙ padded-none m)) ∙ q
 
 -- digits read
-module _ (s : List ℕ) (i to : ℕ) (h : i < to) (k : to ≤ length s) (e : allDigits (part s i to) ≡ true) where
-  pub digit-here : (48 ≤ getD s i 0) × (getD s i 0 ≤ 57)
-  digit-here = digit-range (getD s i 0) (both-true (isDigit (getD s i 0)) (allDigits (part s (i + 1) to)) (sym (every-part isDigit s i to h k) ∙ e) .0)
-
-  pub digits-left : allDigits (part s (i + 1) to) ≡ true
-  digits-left = both-true (isDigit (getD s i 0)) (allDigits (part s (i + 1) to)) (sym (every-part isDigit s i to h k) ∙ e) .1
-
-  pub value-more : (n all : ℕ) → valueFrom n (part s i to) ≡ all → valueFrom (10 * n + (getD s i 0 - 48)) (part s (i + 1) to) ≡ all
-  unfolding valueFrom
-  value-more n all q = ap (valueFrom n) (sym (part-first s i to h k)) ∙ q
+pub value-more : (s : List ℕ) (i to : ℕ) → i < to → to ≤ length s → (n all : ℕ) → valueFrom n (part s i to) ≡ all → valueFrom (10 * n + (getD s i 0 - 48)) (part s (i + 1) to) ≡ all
+unfolding valueFrom
+value-more s i to h k n all q = ap (valueFrom n) (sym (part-first s i to h k)) ∙ q
 
 pub value-last : (s : List ℕ) (i to n all : ℕ) → to ≤ i → valueFrom n (part s i to) ≡ all → n ≡ all
 unfolding valueFrom

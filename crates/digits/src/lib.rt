@@ -5,8 +5,8 @@ ghost use mathlib.Core.Bool.{true};
 ghost use mathlib.Core.List.{reverse};
 ghost use Prim.Native.Nat.{_≤_, _+_, _-_};
 ghost use lib.ListN.{length, take};
-ghost use Rattle.base.specs.Memory.{written, part};
-ghost use Rattle.digits.specs.Digits.{low, padded, digitCount, printed, fitsWidth, allDigits, valueOf};
+ghost use Rattle.base.specs.Memory.{written};
+ghost use Rattle.digits.specs.Digits.{low, padded, digitCount, printed, fitsWidth};
 
 // How many digits a number has. Comparisons, since a division for each digit is slower.
 pub fn count(n: u32) -> usize
@@ -103,18 +103,4 @@ pub fn fits_width(n: u32, w: u32) -> bool
         return false;
     }
     if count(n) <= w as usize { true } else { false }
-}
-
-// The number that at most nine digits say.
-pub fn value(buf: &[u8], from: usize, to: usize) -> u32
-    requires { ⌜ (from ≤ to) × ((to ≤ length (now buf)) × ((to - from ≤ 9) × (allDigits (part (now buf) from to) ≡ true))) ⌝ }
-    ensures { λ r. ⌜ r ≡ valueOf (part (now (buf .entry)) from to) ⌝ }
-{
-    let mut n: u32 = 0;
-    let mut i = from;
-    while i < to {
-        n = 10 * n + (buf[i] as u32 - 48);
-        i += 1;
-    }
-    n
 }

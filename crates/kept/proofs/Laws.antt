@@ -3,7 +3,7 @@ use Prim.Native.Nat.{ℕ, _+_, _*_, _≤_, _<_}
 use mathlib.Core.Path.{_≡_, refl, sym, _∙_}
 use mathlib.Core.Bool.{true}
 use mathlib.Core.List.{List}
-use mathlib.Core.Logic.{_⊎_, inl, inr, ⊎-elim}
+use mathlib.Core.Logic.{inl, inr, ⊎-elim}
 use native.Mathlib.Omega.{arith}
 use borrow.Author.Tests.{leb-true, le-leb, eqb-true, eqb-false, eq-eqb, ne-eqb}
 use lib.Dec.{leb, eqb}
@@ -13,6 +13,7 @@ use Rattle.base.proofs.Choice.{both-true, both-of, pick-true, pick-false, by-te
 use Rattle.base.proofs.Every.{every-each, each-every}
 use Rattle.digits.specs.Digits.{fitsWidth}
 use Rattle.block.specs.declared.State.{State}
+use Rattle.block.specs.Block.{state}
 use Rattle.kept.specs.declared.Entry.{Entry}
 use Rattle.kept.specs.declared.Row.{Row}
 use Rattle.kept.specs.Tables.{Kept, keeping, room, rowAt}
@@ -89,6 +90,18 @@ module _ (m : Kept) where
   counts-of c =
       both-of (text-counts-of (m .state) (m .text) (m .names) (counts-text c))
       (row-counts-of (m .state) (m .rows) (record { rowsUsed = c .rowsUsed; rowsMost = c .rowsMost }))
+
+-- nothing is kept yet
+pub fresh-counted : (count : ℕ) (text names rows : List ℕ) → count ≤ 65536 → Counted (keeping (state count 0 0 0) text names rows)
+fresh-counted count text names rows h = record {
+  kept = omega arith;
+  limit = h;
+  entries = omega arith;
+  used = omega arith;
+  most = omega arith;
+  rowsUsed = omega arith;
+  rowsMost = omega arith;
+}
 
 module _ (s : State) (e : Entry) where
   pub text-inside : entryText s e ≡ true → TextInside s e

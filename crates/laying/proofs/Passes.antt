@@ -11,7 +11,7 @@ use Rattle.base.proofs.Choice.{pick-true, pick-false, never}
 use Rattle.laying.specs.declared.Pass.{Pass}
 use Rattle.laying.specs.declared.Pass.the-variants.{Total, Sizes}
 use Rattle.laying.specs.Puts.{Put, share, contentOf, joined, startIn, tableOf, totalOf}
-use Rattle.laying.specs.Passes.{counts, fills, World, world, moved, stepOf, runOf, Room, Roomy}
+use Rattle.laying.specs.Passes.{counts, fills, World, world, moved, stepOf, runOf, Roomy}
 use Rattle.laying.proofs.Joined.{length-joined-sum, length-joined-none, joined-at}
 use Rattle.laying.proofs.Tables.{length-table, end-table, moved-table, table-same}
 
@@ -90,10 +90,6 @@ pub run-append : (pass : Pass) (ps qs : List Put) (w : World) → runOf pass (ps
 unfolding runOf
 run-append pass [] qs w = refl
 run-append pass (p ∷ ps) qs w = run-append pass ps qs (stepOf pass p w)
-
-pub roomy-one : (pass : Pass) (p : Put) (ps : List Put) (w : World) → Roomy pass (p ∷ ps) w → Room pass (p .span) (length (p .bytes)) w × Roomy pass ps (stepOf pass p w)
-unfolding Roomy
-roomy-one pass p ps w r = r
 
 pub roomy-append : (pass : Pass) (ps qs : List Put) (w : World) → Roomy pass (ps ++ qs) w → Roomy pass ps w × Roomy pass qs (runOf pass ps w)
 unfolding Roomy runOf

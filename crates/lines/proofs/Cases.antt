@@ -14,7 +14,8 @@ use Rattle.splitting.specs.Split.{runClass, runEnd, runLimit, runAt, cutAt, tex
 use Rattle.splitting.specs.Choices.{riseOf, leanString, leanChar, byRise, leanDigits, byRise0, leanDigits0, lean, choiceAt, choicesFrom, choicesOf, anew, referenceOf, leansOn}
 use Rattle.laying.specs.Puts.{share, contentOf, joined, startIn, totalOf}
 use Rattle.writing.specs.Names.{namesAfter, namesOf, ended, goodName, judgedFrom}
-use Rattle.writing.specs.NamePuts.{typeNumber, pieceType, choiceType, piecePuts, valuePuts, choicePuts, tokenPuts, headPuts, referencePuts, namePuts, putsFrom, putsOf}
+use Rattle.tokens.specs.Types.{typeNumber}
+use Rattle.writing.specs.NamePuts.{pieceType, choiceType, piecePuts, valuePuts, choicePuts, tokenPuts, headPuts, referencePuts, namePuts, putsFrom, putsOf}
 use Rattle.writing.specs.Writes.{countable}
 use Rattle.lines.specs.Words.{refusedWord, atWord, stringWord, charWord, digitsWord, digits0Word, deltaWord, delta0Word, matchWord, endWord, dupWord, diffWord, namesWord, bytesWord, slash, newline}
 use Rattle.lines.specs.Lines.{stringText, charText, paddedText, pieceText, choiceText, tokensText, referenceText, nameText, lineOf, linesFrom, linesOf}
@@ -38,21 +39,12 @@ shown =
     ∷ 52 ∷ 32 ∷ 110 ∷ 97 ∷ 109 ∷ 101 ∷ 115 ∷ 32 ∷ 53 ∷ 49 ∷ 32 ∷ 98 ∷ 121 ∷ 116 ∷ 101 ∷ 115 ∷ 10
     ∷ []
 
-pub listing : listedOf run ≡ shown
+-- the paper's listing; no byte, "0 names 0 bytes"; `A`, then a name with a space, "refused 8 at 1"; `A` without its byte 10, "refused 12"
+pub worked : listedOf run ∷ listedOf [] ∷ listedOf (65 ∷ 10 ∷ 32 ∷ 10 ∷ []) ∷ listedOf (65 ∷ []) ∷ []
+    ≡ shown
+    ∷ (48 ∷ 32 ∷ 110 ∷ 97 ∷ 109 ∷ 101 ∷ 115 ∷ 32 ∷ 48 ∷ 32 ∷ 98 ∷ 121 ∷ 116 ∷ 101 ∷ 115 ∷ 10 ∷ [])
+    ∷ (114 ∷ 101 ∷ 102 ∷ 117 ∷ 115 ∷ 101 ∷ 100 ∷ 32 ∷ 56 ∷ 32 ∷ 97 ∷ 116 ∷ 32 ∷ 49 ∷ 10 ∷ [])
+    ∷ (114 ∷ 101 ∷ 102 ∷ 117 ∷ 115 ∷ 101 ∷ 100 ∷ 32 ∷ 49 ∷ 50 ∷ 10 ∷ [])
+    ∷ []
 unfolding pick part low padded countWithin digitCount printed isDigit every isAllowed valueOf valueFrom fourBytes spanOf runClass runEnd runLimit runAt cutAt textPiece numberPiece pieceAt same riseOf leanString leanChar byRise leanDigits byRise0 leanDigits0 lean choiceAt choicesFrom choicesOf anew referenceOf leansOn share contentOf joined startIn totalOf namesAfter namesOf ended goodName judgedFrom typeNumber pieceType choiceType piecePuts valuePuts choicePuts tokenPuts headPuts referencePuts namePuts putsFrom putsOf countable refusedWord atWord stringWord charWord digitsWord digits0Word deltaWord delta0Word matchWord endWord dupWord diffWord namesWord bytesWord slash newline stringText charText paddedText pieceText choiceText tokensText referenceText nameText lineOf linesFrom linesOf refusalText totalsText answerText judgedAnswer answerOf listingOf listedOf
-listing = refl
-
--- no byte: "0 names 0 bytes"
-pub nothing : listedOf [] ≡ 48 ∷ 32 ∷ 110 ∷ 97 ∷ 109 ∷ 101 ∷ 115 ∷ 32 ∷ 48 ∷ 32 ∷ 98 ∷ 121 ∷ 116 ∷ 101 ∷ 115 ∷ 10 ∷ []
-unfolding pick part low padded countWithin digitCount printed isDigit every isAllowed valueOf valueFrom fourBytes spanOf runClass runEnd runLimit runAt cutAt textPiece numberPiece pieceAt same riseOf leanString leanChar byRise leanDigits byRise0 leanDigits0 lean choiceAt choicesFrom choicesOf anew referenceOf leansOn share contentOf joined startIn totalOf namesAfter namesOf ended goodName judgedFrom typeNumber pieceType choiceType piecePuts valuePuts choicePuts tokenPuts headPuts referencePuts namePuts putsFrom putsOf countable refusedWord atWord stringWord charWord digitsWord digits0Word deltaWord delta0Word matchWord endWord dupWord diffWord namesWord bytesWord slash newline stringText charText paddedText pieceText choiceText tokensText referenceText nameText lineOf linesFrom linesOf refusalText totalsText answerText judgedAnswer answerOf listingOf listedOf
-nothing = refl
-
--- `A`, then a name with a space: "refused 8 at 1"
-pub bad-byte : listedOf (65 ∷ 10 ∷ 32 ∷ 10 ∷ []) ≡ 114 ∷ 101 ∷ 102 ∷ 117 ∷ 115 ∷ 101 ∷ 100 ∷ 32 ∷ 56 ∷ 32 ∷ 97 ∷ 116 ∷ 32 ∷ 49 ∷ 10 ∷ []
-unfolding pick part low padded countWithin digitCount printed isDigit every isAllowed valueOf valueFrom fourBytes spanOf runClass runEnd runLimit runAt cutAt textPiece numberPiece pieceAt same riseOf leanString leanChar byRise leanDigits byRise0 leanDigits0 lean choiceAt choicesFrom choicesOf anew referenceOf leansOn share contentOf joined startIn totalOf namesAfter namesOf ended goodName judgedFrom typeNumber pieceType choiceType piecePuts valuePuts choicePuts tokenPuts headPuts referencePuts namePuts putsFrom putsOf countable refusedWord atWord stringWord charWord digitsWord digits0Word deltaWord delta0Word matchWord endWord dupWord diffWord namesWord bytesWord slash newline stringText charText paddedText pieceText choiceText tokensText referenceText nameText lineOf linesFrom linesOf refusalText totalsText answerText judgedAnswer answerOf listingOf listedOf
-bad-byte = refl
-
--- `A` without its byte 10: "refused 12"
-pub unended : listedOf (65 ∷ []) ≡ 114 ∷ 101 ∷ 102 ∷ 117 ∷ 115 ∷ 101 ∷ 100 ∷ 32 ∷ 49 ∷ 50 ∷ 10 ∷ []
-unfolding pick part low padded countWithin digitCount printed isDigit every isAllowed valueOf valueFrom fourBytes spanOf runClass runEnd runLimit runAt cutAt textPiece numberPiece pieceAt same riseOf leanString leanChar byRise leanDigits byRise0 leanDigits0 lean choiceAt choicesFrom choicesOf anew referenceOf leansOn share contentOf joined startIn totalOf namesAfter namesOf ended goodName judgedFrom typeNumber pieceType choiceType piecePuts valuePuts choicePuts tokenPuts headPuts referencePuts namePuts putsFrom putsOf countable refusedWord atWord stringWord charWord digitsWord digits0Word deltaWord delta0Word matchWord endWord dupWord diffWord namesWord bytesWord slash newline stringText charText paddedText pieceText choiceText tokensText referenceText nameText lineOf linesFrom linesOf refusalText totalsText answerText judgedAnswer answerOf listingOf listedOf
-unended = refl
+worked = refl

@@ -12,7 +12,7 @@ use Rattle.splitting.specs.Split.{cutAt}
 use Rattle.splitting.specs.Choices.{choiceAt, choicesFrom, choicesOf}
 use Rattle.splitting.proofs.Runs.{cut-range, cut-before}
 use Rattle.writing.specs.Names.{namesAfter, namesOf, NameAt}
-use Rattle.writing.proofs.NameLaws.{names-out}
+use Rattle.writing.proofs.Walks.{Standing, stand-first, stand-next, none-left}
 use Rattle.lines.specs.Page.{Page, said, HasRoom}
 use Rattle.lines.specs.Lines.{choiceText, tokensText, lineOf, linesFrom, linesOf}
 use Rattle.lines.proofs.Pages.{first-room, next-room, said-next, said-none}
@@ -70,12 +70,9 @@ module _ (r s : List ℕ) (w₀ w : Page) (p a b : ℕ) (k : Walking r s w₀ w 
     pub walk-end : {v : Page} → v ≡ said (choiceText s End) w → v ≡ said (tokensText s (choicesOf r s)) w₀
     walk-end d = d ∙ ap (λ (l : List ℕ). said l w) (sym last) ∙ k .rest
 
--- the names from name n on, which starts at a place; the name before it lies from one place to another
+-- the names from where a walk over them stands, and what they say
 pub record Naming (input : List ℕ) (w₀ w : Page) (n from to start : ℕ) : Type 0 where
-  pub low : from ≤ to
-  pub high : to ≤ length input
-  pub within : start ≤ length input
-  pub count : n + length (namesAfter [] (drop start input)) ≡ length (namesOf input)
+  pub stands : Standing input n from to start
   pub room : HasRoom (linesFrom n (part input from to) (namesAfter [] (drop start input))) w
   pub rest : said (linesFrom n (part input from to) (namesAfter [] (drop start input))) w ≡ said (linesOf (namesOf input)) w₀
 
@@ -83,10 +80,7 @@ pub names-start : (input : List ℕ) (w : Page) {n : ℕ} → n ≡ 0 → HasRoo
 unfolding linesOf namesOf
 names-start input w {n} e q =
     let first : Naming input w w 0 0 0 0 = record {
-      low = omega arith;
-      high = omega arith;
-      within = omega arith;
-      count = omega arith;
+      stands = stand-first input;
       room = subst (λ (l : List ℕ). HasRoom (linesFrom 0 l (namesAfter [] input)) w) (sym (part-none input 0 0 (omega arith))) q;
       rest = ap (λ (l : List ℕ). said (linesFrom 0 l (namesAfter [] input)) w) (part-none input 0 0 (omega arith));
     } in
@@ -114,20 +108,12 @@ module _ (input : List ℕ) (w₀ w : Page) (n from to start : ℕ) (k : Naming 
     pub names-more : {v : Page} → v ≡ said (lineOf n (part input from to) (part input start end)) w → Naming input w₀ v (n + 1) start end (end + 1)
     unfolding this after
     names-more {v} d = record {
-      low = e .low;
-      high = let z : end < length input = e .high in omega arith;
-      within = let z : end < length input = e .high in omega arith;
-      count = let z : n + length (namesAfter [] (drop start input)) ≡ length (namesOf input) = k .count in omega (arith, ap length (e .first));
+      stands = stand-next input n from to start (k .stands) end e;
       room = next-room this after w both-rooms d;
       rest = said-next this after w both-rooms d refl ∙ ap (λ (l : List ℕ). said l w) (sym next) ∙ k .rest;
     }
 
-    pub names-count : n < length (namesOf input)
-    names-count = let z : n + length (namesAfter [] (drop start input)) ≡ length (namesOf input) = k .count in omega (arith, ap length (e .first))
-
   pub names-end : length input ≤ start → w ≡ said (linesOf (namesOf input)) w₀
   names-end h =
-      let z : start ≤ length input = k .within in
-      let e : start ≡ length input = omega arith in
-      let none : linesFrom n (part input from to) (namesAfter [] (drop start input)) ≡ [] = lines-none n (part input from to) _ (names-out input [] start e) in
+      let none : linesFrom n (part input from to) (namesAfter [] (drop start input)) ≡ [] = lines-none n (part input from to) _ (none-left input n from to start (k .stands) h) in
       sym (said-none w) ∙ ap (λ (l : List ℕ). said l w) (sym none) ∙ k .rest

@@ -13,6 +13,7 @@ ghost use Rattle.lines.specs.Page.{page, said, HasRoom};
 ghost use Rattle.lines.specs.Lines.{stringText, charText, paddedText, pieceText, choiceText, tokensText, nameText, lineOf, linesOf};
 use crate::text;
 use spans::Distance;
+use spans::Position;
 use splitting::Choice;
 use splitting::Piece;
 use splitting::Reference;
@@ -82,9 +83,10 @@ fn put_tokens(out: &mut [u8], at: usize, table: &[u8; 256], before: &[u8], name:
     let mut a: usize = 0;
     let mut b: usize = 0;
     while a < name.len() {
-        let e = splitting::cut_at(table, name, p, a);
-        let f = splitting::cut_at(table, before, p, b);
-        let c = splitting::choice_at(table, before, name, p, a, e, b, f);
+        let here = Position(p);
+        let e = splitting::cut_at(table, name, here, a);
+        let f = splitting::cut_at(table, before, here, b);
+        let c = splitting::choice_at(table, before, name, here, a, e, b, f);
         next = put_choice(out, next, name, c);
         a = e.end;
         b = f.end;

@@ -149,18 +149,6 @@ pub length-past : (cur : List ℕ) (i n : ℕ) → length (past cur i n) ≡ len
 unfolding past
 length-past cur i n = length-set cur i (cursorOf cur i + n)
 
-pub length-value : (ty : TokenType) (cur : List ℕ) (p c : ℕ) → length (valuePast ty p c cur) ≡ length cur
-unfolding valuePast
-length-value type.String cur p c = length-set cur (spanOf p 1) c
-length-value type.Char cur p c = length-set cur (spanOf p 2) c
-length-value type.Digits cur p c = length-set cur (spanOf p 7) c
-length-value type.Digits0 cur p c = length-past (set cur (spanOf p 3) c) (spanOf p 4) 1 ∙ length-set cur (spanOf p 3) c
-length-value type.Delta cur p c = length-set cur (spanOf p 8) c
-length-value type.Delta0 cur p c = length-set cur (spanOf p 9) c
-length-value type.Match cur p c = refl
-length-value type.End cur p c = refl
-length-value type.Other cur p c = refl
-
 -- the moves of the code, in a contract's direction
 module _ (cur : List ℕ) (i j n : ℕ) (e : i ≡ j) where
   pub move-fits : cursorOf cur j + n < 2 ^ 32 → getD cur i 0 + n < 2 ^ 32

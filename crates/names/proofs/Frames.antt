@@ -1,12 +1,10 @@
 -- The cursors of a name: those before its first position don't matter to it, and it leaves the block open.
-use Prim.Native.Nat.{ℕ, zero, suc, _+_, _-_, _*_, _≤_, _<_}
+use Prim.Native.Nat.{ℕ, zero, suc, _+_, _*_, _≤_}
 use mathlib.Core.Path.{_≡_, refl, sym, ap, _∙_}
-use mathlib.Core.Bool.{Bool, true, false}
 use mathlib.Core.List.{List, []}
 use native.Mathlib.Omega.{arith}
 use lib.Dec.{eqb}
 use lib.ListN.{length}
-use Rattle.base.specs.Choice.{pick}
 use Rattle.base.proofs.Choice.{pick-true, pick-false, by-test}
 use Rattle.spans.specs.declared.Cursor.{Cursor}
 use Rattle.block.specs.Block.{spanOf, cursorOf}
@@ -19,10 +17,10 @@ use Rattle.steps.specs.Source.{Source, source, Earlier, byteIn}
 use Rattle.steps.specs.Steps.{stepAt}
 use Rattle.steps.proofs.Frame.{byte-in-same, step-cursors}
 use Rattle.names.specs.declared.Judged.the-variants as judged
-use Rattle.names.specs.Names.{Draft, draft, Named, named, refused, past, typeIn, valuePast, grown, ended, printable, onward, nameFrom, nameOf}
+use Rattle.names.specs.Names.{Draft, draft, Named, named, refused, past, typeIn, grown, ended, printable, onward, nameFrom, nameOf}
 use Rattle.names.specs.Judge.{summary, draftOf}
 use Rattle.names.proofs.Cursors.{open-token, open-ended, past-later, value-later}
-use Rattle.names.proofs.Growing.{never-named, Grows, grows, Alike, name-same}
+use Rattle.names.proofs.Growing.{never-named, Grows, grows, name-same}
 
 -- two tables have the same cursors from position p on
 abbrev pub SameFrom : ℕ → List ℕ → List ℕ → Type 0

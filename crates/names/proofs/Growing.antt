@@ -1,25 +1,24 @@
 -- A name grows position by position: what its text and rows come to, and what it doesn't depend on.
-use Prim.Native.Nat.{ℕ, zero, suc, _+_, _-_, _*_, _≤_, _<_}
+use Prim.Native.Nat.{ℕ, zero, suc, _+_, _*_, _≤_, _<_}
 use mathlib.Core.Path.{_≡_, refl, sym, ap, _∙_}
-use mathlib.Core.Bool.{Bool, true, false}
-use mathlib.Core.List.{List, [], _++_}
+use mathlib.Core.Bool.{true, false}
+use mathlib.Core.List.{List}
 use native.Mathlib.Omega.{arith}
 use borrow.Author.Tests.{leb-true, eqb-false}
 use lib.Dec.{leb, eqb}
 use lib.ListN.{length, length-append}
-use Rattle.base.specs.Choice.{pick, both}
+use Rattle.base.specs.Choice.{pick}
 use Rattle.base.proofs.Choice.{pick-true, pick-false, by-test, both-true}
 use Rattle.classes.specs.Classes.{allAllowed}
 use Rattle.spans.specs.declared.Cursor.{Cursor}
 use Rattle.tokens.specs.Tokens.{bytesOf, rowOf}
 use Rattle.tokens.specs.declared.Token.{Token}
 use Rattle.tokens.proofs.Laws.{length-row}
-use Rattle.block.specs.Block.{spanOf}
 use Rattle.steps.specs.declared.Step.{Step}
 use Rattle.steps.specs.declared.Step.the-variants as step
 use Rattle.steps.specs.Source.{Source, Earlier, byteIn}
 use Rattle.steps.specs.Steps.{stepAt}
-use Rattle.names.specs.Names.{Draft, draft, Named, named, refused, past, typeIn, valuePast, grown, ended, printable, onward, nameFrom, nameOf}
+use Rattle.names.specs.Names.{Draft, Named, named, refused, grown, ended, printable, onward, nameFrom}
 
 pub never-named : {r : ℕ} {d : Draft} → refused r ≡ named d → ⊥
 never-named q = let z : _≡_ {A = ℕ} 0 1 = cc in omega arith

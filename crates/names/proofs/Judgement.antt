@@ -1,11 +1,11 @@
 -- A name is judged by lengths alone: the text that is kept and the cursors that are moved don't matter.
-use Prim.Native.Nat.{ℕ, zero, suc, _+_, _-_, _≤_, _<_}
+use Prim.Native.Nat.{ℕ, zero, suc, _+_, _≤_, _<_}
 use mathlib.Core.Path.{_≡_, refl, sym, ap, _∙_}
 use mathlib.Core.Bool.{Bool, true, false}
 use mathlib.Core.List.{List, []}
 use native.Mathlib.Omega.{arith}
 use borrow.Author.Tests.{le-leb, lt-leb}
-use lib.Dec.{eqb, leb}
+use lib.Dec.{eqb}
 use lib.ListN.{length, length-append}
 use Rattle.base.specs.Choice.{pick}
 use Rattle.base.proofs.Choice.{pick-true, pick-false, by-test, both-of, both-left, both-right}

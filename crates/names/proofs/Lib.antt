@@ -1,6 +1,7 @@
 pub mod Judgement
 pub mod Cursors
 pub mod Growing
+pub mod Behind
 pub mod Turns
 pub mod Frames
 pub mod OneTurn

@@ -4,45 +4,57 @@ use mathlib.Core.Path.{_≡_, refl, sym, ap, _∙_}
 use mathlib.Core.Bool.{Bool, true, false}
 use mathlib.Core.List.{List, [], _∷_}
 use native.Mathlib.Omega.{arith}
-use borrow.Author.Tests.{eqb-true, le-leb, lt-leb, lt-ltb, le-ltb}
-use lib.Dec.{eqb, ltb}
+use borrow.Author.Tests.{le-leb, lt-leb, lt-ltb, le-ltb}
+use lib.Dec.{ltb}
 use lib.ListN.{length, getD}
 use Rattle.base.specs.Choice.{both}
 use Rattle.base.specs.Memory.{written, part}
 use Rattle.base.proofs.Choice.{took, left, pick-true, pick-false, by-test, never, both-of, both-left, both-right}
 use Rattle.base.proofs.Memory.{written-next, written-none}
 use Rattle.base.proofs.Numbers.{here-or-later}
+use Rattle.base.specs.Every.{Below}
 use Rattle.spans.specs.declared.Cursor.{Cursor}
 use Rattle.spans.specs.declared.NextByte.{NextByte}
 use Rattle.spans.specs.declared.NextByte.the-variants as byte
 use Rattle.block.specs.Block.{spanOf, endOf, cursorOf}
+use Rattle.tokens.specs.declared.TokenType.{TokenType}
+use Rattle.tokens.specs.declared.TokenType.the-variants as type
+use Rattle.tokens.specs.Types.{typeOf}
 use Rattle.kept.specs.declared.Row.{Row}
 use Rattle.kept.specs.Tables.{rowAt}
 use Rattle.kept.proofs.Frame.{Alike, alike-written}
 use Rattle.steps.specs.Source.{Source, Earlier, earlier, byteIn}
-use Rattle.steps.specs.Sound.{Rows, Below}
+use Rattle.steps.specs.Sound.{Rows}
 use Rattle.steps.proofs.Laws.{rows-more}
-use Rattle.names.specs.declared.Ran.the-variants.{On, Long}
-use Rattle.names.specs.Names.{past}
+use Rattle.names.specs.declared.Ran.the-variants.{Long}
+use Rattle.names.specs.Names.{past, typeIn}
 use Rattle.names.specs.Keeps.{Memory, memory}
 use Rattle.names.specs.Repeats.{RowsSpelt}
-use Rattle.names.specs.Runs.{isMatch, runEnd, textStart, textLength, movedRows, typesPast, Reaches, runTo, runOf, runPut}
+use Rattle.names.specs.Runs.{isMatch, runEnd, textStart, textLength, movedRows, typesPast, Reaches, onAt, runTo, runOf, runPut}
 use Rattle.names.proofs.Cursors.{byte-reach, past-later, length-past}
 
--- a type, in a contract's direction
-pub match-value : (found : NextByte) {b : ℕ} {c : Cursor} → found ≡ byte.Value b c → eqb b 13 ≡ isMatch found
-unfolding isMatch
-match-value found q = rw q
+pub only-match : (t : TokenType) → isMatch t ≡ true → t ≡ type.Match
+only-match type.Match q = refl
+only-match type.String q = absurd (never q)
+only-match type.Char q = absurd (never q)
+only-match type.Digits q = absurd (never q)
+only-match type.Digits0 q = absurd (never q)
+only-match type.Delta q = absurd (never q)
+only-match type.Delta0 q = absurd (never q)
+only-match type.End q = absurd (never q)
+only-match type.Other q = absurd (never q)
 
-pub match-short : (found : NextByte) → found ≡ byte.Short → false ≡ isMatch found
-unfolding isMatch
-match-short found q = rw q
+-- where the type is MATCH, there is a type byte
+pub record Matched (found : NextByte) : Type 0 where
+  pub code : ℕ
+  pub next : Cursor
+  pub is : found ≡ byte.Value code next
+  pub typed : typeOf code ≡ type.Match
 
--- a MATCH is the byte 13
-pub is-thirteen : (found : NextByte) → isMatch found ≡ true → (c : Cursor) × (found ≡ byte.Value 13 c)
-unfolding isMatch
-is-thirteen (byte.Value b c) q = (c, ap (λ (x : ℕ). byte.Value x c) (eqb-true b 13 q))
-is-thirteen byte.Short q = absurd (never q)
+pub matched : (found : NextByte) → isMatch (typeIn found) ≡ true → Matched found
+unfolding typeIn
+matched (byte.Value b c) q = record { code = b; next = c; is = refl; typed = only-match (typeOf b) q }
+matched byte.Short q = absurd (never q)
 
 -- a turn of the loop over the types
 module _ (s : Source) (p f : ℕ) where
@@ -51,11 +63,11 @@ module _ (s : Source) (p f : ℕ) where
   run-over h = rw h
 
   module _ (g : ℕ) (h : f ≡ suc g) where
-    pub run-stops : isMatch (byteIn s p 0) ≡ false → p ≡ runEnd s p f
+    pub run-stops : isMatch (typeIn (byteIn s p 0)) ≡ false → p ≡ runEnd s p f
     unfolding runEnd
     run-stops q = rw h (sym (pick-false _ _ q))
 
-    pub run-more : isMatch (byteIn s p 0) ≡ true → runEnd s (p + 1) g ≡ runEnd s p f
+    pub run-more : isMatch (typeIn (byteIn s p 0)) ≡ true → runEnd s (p + 1) g ≡ runEnd s p f
     unfolding runEnd
     run-more q = rw h (sym (pick-true _ _ q))
 
@@ -190,7 +202,7 @@ pub run-low : (s : Source) (f p : ℕ) → p ≤ runEnd s p f
 unfolding runEnd
 run-low s zero p = omega arith
 run-low s (suc f) p =
-    by-test (isMatch (byteIn s p 0))
+    by-test (isMatch (typeIn (byteIn s p 0)))
     (λ q. let k = run-low s f (p + 1) in rw (pick-true (runEnd s (p + 1) f) p q) (omega arith))
     (λ q. rw (pick-false (runEnd s (p + 1) f) p q) (omega arith))
 
@@ -198,16 +210,16 @@ pub run-high : (s : Source) (f p : ℕ) → runEnd s p f ≤ p + f
 unfolding runEnd
 run-high s zero p = omega arith
 run-high s (suc f) p =
-    by-test (isMatch (byteIn s p 0))
+    by-test (isMatch (typeIn (byteIn s p 0)))
     (λ q. let k = run-high s f (p + 1) in rw (pick-true (runEnd s (p + 1) f) p q) (omega arith))
     (λ q. rw (pick-false (runEnd s (p + 1) f) p q) (omega arith))
 
-pub run-matches : (s : Source) (f p i : ℕ) → p ≤ i → i < runEnd s p f → isMatch (byteIn s i 0) ≡ true
+pub run-matches : (s : Source) (f p i : ℕ) → p ≤ i → i < runEnd s p f → isMatch (typeIn (byteIn s i 0)) ≡ true
 unfolding runEnd
 run-matches s zero p i h l = absurd (omega arith)
 run-matches s (suc f) p i h l =
-    by-test (isMatch (byteIn s p 0))
-    (λ q. let k : i < runEnd s (p + 1) f = rw (pick-true (runEnd s (p + 1) f) p q) at l in here-or-later (λ (j : ℕ). isMatch (byteIn s j 0) ≡ true) p i h q (λ z. run-matches s f (p + 1) i z k))
+    by-test (isMatch (typeIn (byteIn s p 0)))
+    (λ q. let k : i < runEnd s (p + 1) f = rw (pick-true (runEnd s (p + 1) f) p q) at l in here-or-later (λ (j : ℕ). isMatch (typeIn (byteIn s j 0)) ≡ true) p i h q (λ z. run-matches s f (p + 1) i z k))
     (λ q. let k : i < p = rw (pick-false (runEnd s (p + 1) f) p q) at l in absurd (omega arith))
 
 -- of a run against rows that are known to be spelt
@@ -221,8 +233,8 @@ module _ (s : Source) (e : Earlier) (used end p q : ℕ) (k : Rows used e) (r : 
   pub run-moves : Below (2 ^ 32) (s .dir) → (i : ℕ) → p ≤ i → i < q → cursorOf (s .cur) (spanOf i 0) + 1 < 2 ^ 32
   unfolding endOf
   run-moves d i h l =
-      let w = is-thirteen (byteIn s i 0) (run-matches s (end - p) p i h (omega arith)) in
-      let b = byte-reach s i 0 (w .1) .1 in
+      let w = matched (byteIn s i 0) (run-matches s (end - p) p i h (omega arith)) in
+      let b = byte-reach s i 0 (w .is) .1 in
       omega (arith, b .high, d (2 * spanOf i 0 + 1))
 
   pub length-asks : used < 2 ^ 31
@@ -248,7 +260,7 @@ module _ (text rows : List ℕ) (first count n : ℕ) (h : n ≤ count) where
 
 -- what a run comes to, in a contract's direction
 module _ (s : Source) (e : Earlier) (end p q len : ℕ) (is : q ≡ runEnd s p (end - p)) where
-  pub ran-none : q ≤ p → On p len ≡ runOf s e end p len
+  pub ran-none : q ≤ p → onAt p len ≡ runOf s e end p len
   unfolding runOf runTo
   ran-none h = rw (← is) (took _ _ (le-leb q p h) refl)
 
@@ -257,7 +269,7 @@ module _ (s : Source) (e : Earlier) (end p q len : ℕ) (is : q ≡ runEnd s p (
     unfolding runOf runTo
     ran-long h = rw (← is, ← wide) (left _ _ (lt-leb q p some) (left _ _ (lt-leb (len + w) 254 h) refl))
 
-    pub ran-on : len + w ≤ 254 → On q (len + w) ≡ runOf s e end p len
+    pub ran-on : len + w ≤ 254 → onAt q (len + w) ≡ runOf s e end p len
     unfolding runOf runTo
     ran-on h = rw (← is, ← wide) (left _ _ (lt-leb q p some) (took _ _ (le-leb (len + w) 254 h) refl))
 
@@ -265,7 +277,7 @@ module _ (e : Earlier) (used row p len : ℕ) (m : Memory) where
   both-never : (k : Bool) (a b : ℕ) → b ≤ a → both k (ltb a b) ≡ false
   both-never k a b h = by-test k (λ q. both-right q (le-ltb a b h)) (λ q. both-left (ltb a b) q)
 
-  pub puts-none : (k : Bool) (q l : ℕ) → q ≤ p → m ≡ runPut k e used row p len (On q l) m
+  pub puts-none : (k : Bool) (q l : ℕ) → q ≤ p → m ≡ runPut k e used row p len (onAt q l) m
   unfolding runPut
   puts-none k q l h = left _ _ (both-never k p q h) refl
 
@@ -273,7 +285,7 @@ module _ (e : Earlier) (used row p len : ℕ) (m : Memory) where
   unfolding runPut
   puts-long k = refl
 
-  pub puts-not : (k : Bool) (q l : ℕ) → k ≡ false → m ≡ runPut k e used row p len (On q l) m
+  pub puts-not : (k : Bool) (q l : ℕ) → k ≡ false → m ≡ runPut k e used row p len (onAt q l) m
   unfolding runPut
   puts-not k q l h = left _ _ (both-left (ltb p q) h) refl
 
@@ -281,6 +293,6 @@ module _ (e : Earlier) (used row p len : ℕ) (m : Memory) where
       → now ≡ memory (written (m .text) (used + len) (part (m .text) (textStart (m .rows) (e .first + (p - 1))) (textStart (m .rows) (e .first + (p - 1)) + w)))
       (written (m .rows) (5 * (row + (p - 1))) (movedRows (m .rows) (e .first + (p - 1)) (q - p) (used + len)))
       (typesPast (m .cur) p (q - p))
-      → now ≡ runPut k e used row p len (On q (len + w)) m
+      → now ≡ runPut k e used row p len (onAt q (len + w)) m
   unfolding runPut
   puts-run k q w h l n = let d : len + w - len ≡ w = omega arith in took _ _ (both-of h (lt-ltb p q l)) (rw d n)

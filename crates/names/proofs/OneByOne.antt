@@ -12,15 +12,15 @@ use Rattle.base.proofs.Memory.{length-part}
 use Rattle.base.proofs.Numbers.{by-order}
 use Rattle.classes.specs.Classes.{allAllowed}
 use Rattle.spans.specs.declared.Cursor.{Cursor}
+use Rattle.spans.specs.declared.NextByte.{NextByte}
 use Rattle.block.specs.Block.{spanOf, cursorOf}
 use Rattle.block.specs.Open.{Open}
 use Rattle.tokens.specs.declared.TokenType.the-variants as type
 use Rattle.tokens.specs.declared.Token.{Token}
 use Rattle.tokens.specs.Tokens.{bytesOf, rowOf}
-use Rattle.tokens.proofs.Laws.{type-match}
 use Rattle.kept.specs.Tables.{rowAt}
 use Rattle.steps.specs.declared.Step.the-variants as step
-use Rattle.steps.specs.Source.{Source, source, Earlier, earlier, byteIn}
+use Rattle.steps.specs.Source.{Source, source, Earlier, byteIn}
 use Rattle.steps.specs.Steps.{tokenOf, stepAt}
 use Rattle.steps.specs.Sound.{Rows}
 use Rattle.steps.proofs.Forward.{step-match}
@@ -33,26 +33,25 @@ use Rattle.names.specs.Runs.{isMatch, movedRows, typesPast}
 use Rattle.names.proofs.Cursors.{open-typed, past-later}
 use Rattle.names.proofs.Growing.{never-named}
 use Rattle.names.proofs.Judgement.{judgeFrom, goes, spoils, long-spoils, short-prints}
-use Rattle.names.proofs.Matches.{is-thirteen, textSize}
+use Rattle.names.proofs.Matches.{only-match, matched, textSize}
 
 -- one MATCH against a spelt row
 module _ (s : Source) (e : Earlier) (used : ℕ) (k : Rows used e) (spelt : RowsSpelt e) (p i : ℕ) (low : 1 ≤ p) (there : p ≤ e .count) (is : i ≡ e .first + (p - 1))
-    (m : isMatch (byteIn s p 0) ≡ true) where
+    (m : isMatch (typeIn (byteIn s p 0)) ≡ true) where
   abbrev token : Token
   token = tokenOf (e .text) (rowAt (e .rows) i)
 
   abbrev next : Cursor
-  next = is-thirteen (byteIn s p 0) m .0
+  next = matched (byteIn s p 0) m .next
 
   steps : stepAt s e p ≡ step.Got token next
   steps =
       let h = k .most in
-      step-match s e p (is-thirteen (byteIn s p 0) m .1) (omega arith) there type-match
+      step-match s e p (matched (byteIn s p 0) m .is) (omega arith) there (matched (byteIn s p 0) m .typed)
       ∙ ap (λ (j : ℕ). step.Got (tokenOf (e .text) (rowAt (e .rows) j)) next) (sym is)
 
   typed : typeIn (byteIn s p 0) ≡ type.Match
-  unfolding typeIn
-  typed = rw (is-thirteen (byteIn s p 0) m .1) type-match
+  typed = only-match (typeIn (byteIn s p 0)) m
 
   here : Spelt (e .text) (rowAt (e .rows) i)
   here = spelt .each i (omega arith) (omega arith)
@@ -79,7 +78,7 @@ module _ (s : Source) (e : Earlier) (used : ℕ) (k : Rows used e) (spelt : Rows
 -- MATCHes one by one
 module _ (s : Source) (e : Earlier) (used : ℕ) (k : Rows used e) (spelt : RowsSpelt e) where
   pub judge-run : (n p i f g len c q l d : ℕ) (all : Judged) → i ≡ e .first + (p - 1) → 1 ≤ p → p + n ≤ e .count + 1
-      → ((j : ℕ) → p ≤ j → j < p + n → isMatch (byteIn s j 0) ≡ true)
+      → ((j : ℕ) → p ≤ j → j < p + n → isMatch (typeIn (byteIn s j 0)) ≡ true)
       → f ≡ n + g → q ≡ p + n → l ≡ len + textSize (e .rows) i n → d ≡ c + n → l ≤ 254
       → judgeFrom s e f p len c ≡ all → judgeFrom s e g q l d ≡ all
   unfolding textSize
@@ -98,7 +97,7 @@ module _ (s : Source) (e : Earlier) (used : ℕ) (k : Rows used e) (spelt : Rows
       (goes s e f (n + g) p len c all (omega arith) inv (steps s e used k spelt p i low (omega arith) is h) z w refl)
 
   pub judge-long : (n p i f g len c : ℕ) (all : Judged) → i ≡ e .first + (p - 1) → 1 ≤ p → p + n ≤ e .count + 1
-      → ((j : ℕ) → p ≤ j → j < p + n → isMatch (byteIn s j 0) ≡ true)
+      → ((j : ℕ) → p ≤ j → j < p + n → isMatch (typeIn (byteIn s j 0)) ≡ true)
       → f ≡ n + g → len ≤ 254 → 254 < len + textSize (e .rows) i n
       → judgeFrom s e f p len c ≡ all → judged.Refused 8 ≡ all
   unfolding textSize
@@ -141,7 +140,7 @@ module _ (s : Source) (e : Earlier) (used : ℕ) (k : Rows used e) (spelt : Rows
   behind zero i h l = part-none (e .text) _ _ (omega arith) ∙ sym (part-none (e .text) _ _ (omega arith))
   behind (suc n) i h l = rw (spelt .laid i h (omega arith))
 
-  module _ (p i n : ℕ) (low : 1 ≤ p) (there : p ≤ e .count) (few : p + n ≤ e .count) (is : i ≡ e .first + (p - 1)) (m : isMatch (byteIn s p 0) ≡ true) (d : Draft) where
+  module _ (p i n : ℕ) (low : 1 ≤ p) (there : p ≤ e .count) (few : p + n ≤ e .count) (is : i ≡ e .first + (p - 1)) (m : isMatch (typeIn (byteIn s p 0)) ≡ true) (d : Draft) where
     abbrev said : List ℕ
     said = bytesOf (s .bytes) (e .text) (token s e used k spelt p i low there is m)
 
@@ -187,7 +186,7 @@ module _ (s : Source) (e : Earlier) (used : ℕ) (k : Rows used e) (spelt : Rows
       (λ z. absurd (never-named (sym (pick-false y (refused 8) z) ∙ o)))
 
   pub name-run : (n p i f g q : ℕ) (d D : Draft) → i ≡ e .first + (p - 1) → 1 ≤ p → p + n ≤ e .count + 1
-      → ((j : ℕ) → p ≤ j → j < p + n → isMatch (byteIn s j 0) ≡ true)
+      → ((j : ℕ) → p ≤ j → j < p + n → isMatch (typeIn (byteIn s j 0)) ≡ true)
       → f ≡ n + g → q ≡ p + n → nameFrom s e used f p d ≡ named D → nameFrom s e used g q (ranOn e used i p n d) ≡ named D
   name-run zero p i f g q d D is low few m ef eq inv =
       let a : g ≡ f = omega arith in
@@ -219,11 +218,11 @@ unfolding spanOf
 type-same bytes dir cur p q h =
     byte-in-same bytes dir (past cur (10 * p + 0) 1) cur q (λ i k. past-later cur p 0 1 (10 * q + i) (omega arith) (omega arith)) 0 (omega arith)
 
-pub types-open : (n : ℕ) (bytes dir cur : List ℕ) (p : ℕ) → p + n ≤ 129 → Open bytes dir cur → ((j : ℕ) → p ≤ j → j < p + n → isMatch (byteIn (source bytes dir cur) j 0) ≡ true)
+pub types-open : (n : ℕ) (bytes dir cur : List ℕ) (p : ℕ) → p + n ≤ 129 → Open bytes dir cur → ((j : ℕ) → p ≤ j → j < p + n → isMatch (typeIn (byteIn (source bytes dir cur) j 0)) ≡ true)
     → Open bytes dir (typesPast cur p n)
 unfolding typesPast
 types-open zero bytes dir cur p h o m = o
 types-open (suc n) bytes dir cur p h o m =
     types-open n bytes dir (past cur (spanOf p 0) 1) (p + 1) (omega arith)
-    (open-typed bytes dir cur o p (omega arith) (is-thirteen (byteIn (source bytes dir cur) p 0) (m p (omega arith) (omega arith)) .1))
-    (λ j a b. ap isMatch (type-same bytes dir cur p j a) ∙ m j (omega arith) (omega arith))
+    (open-typed bytes dir cur o p (omega arith) (matched (byteIn (source bytes dir cur) p 0) (m p (omega arith) (omega arith)) .is))
+    (λ j a b. ap (λ (x : NextByte). isMatch (typeIn x)) (type-same bytes dir cur p j a) ∙ m j (omega arith) (omega arith))

@@ -7,6 +7,7 @@ use native.Mathlib.Omega.{arith}
 use lib.Dec.{eqb}
 use Rattle.base.specs.Choice.{pick}
 use Rattle.base.proofs.Choice.{took, left}
+use Rattle.base.specs.Every.{Below}
 use Rattle.spans.specs.declared.Cursor.{Cursor}
 use Rattle.spans.specs.declared.NextByte.{NextByte}
 use Rattle.block.specs.Block.{spanOf, endOf, cursorOf}
@@ -21,7 +22,6 @@ use Rattle.steps.specs.declared.Step.{Step}
 use Rattle.steps.specs.declared.Step.the-variants as step
 use Rattle.steps.specs.Source.{Source, Earlier, byteIn}
 use Rattle.steps.specs.Steps.{stepAt}
-use Rattle.steps.specs.Sound.{Below}
 use Rattle.steps.proofs.Moves.{Moved}
 use Rattle.steps.proofs.Laws.{Known, Given, given}
 use Rattle.names.specs.declared.Judged.the-variants as judged
@@ -78,7 +78,7 @@ module _ (keeping : Bool) (bytes text : List ℕ) (len : ℕ) {st : Step} where
 
 module _ (keeping : Bool) (bytes : List ℕ) {st : Step} (at : Place) (m : Memory) where
   pub turn-puts : {t : Token} {c : Cursor} {ty found : TokenType} {m' : Memory} → st ≡ step.Got t c → found ≡ ty
-      → m' ≡ pick keeping (putToken bytes m t found (at .p) (c .0) (at .used + at .len) (at .row + (at .p - 1))) m → m' ≡ turnPut keeping bytes st ty at m
+      → m' ≡ pick keeping (putToken bytes m t found (at .p .0) (c .0) (at .used + at .len) (at .row + (at .p .0 - 1))) m → m' ≡ turnPut keeping bytes st ty at m
   unfolding turnPut
   turn-puts s e q = rw (s, ← e) q
 
@@ -106,27 +106,27 @@ judged-ends n len k z = left _ _ k (left _ _ z refl)
 
 -- What a token asks for, from what is known where the step is taken
 
-module _ (s : Source) (e : Earlier) (at : Place) (k : Known s e (at .used) (at .p)) (dirBelow : Below (2 ^ 32) (s .dir))
-    (t : Token) (c : Cursor) (q : stepAt s e (at .p) ≡ step.Got t c) where
-  told : Given s e (at .used) (at .p) t c
-  told = given s e (at .used) (at .p) k q
+module _ (s : Source) (e : Earlier) (at : Place) (k : Known s e (at .used) (at .p .0)) (dirBelow : Below (2 ^ 32) (s .dir))
+    (t : Token) (c : Cursor) (q : stepAt s e (at .p .0) ≡ step.Got t c) where
+  told : Given s e (at .used) (at .p .0) t c
+  told = given s e (at .used) (at .p .0) k q
 
   end-below : (i : ℕ) → endOf (s .dir) i < 2 ^ 32
   unfolding endOf
   end-below i = dirBelow (2 * i + 1)
 
-  type-here : typeIn (byteIn s (at .p) 0) ≡ typeOf (told .code)
+  type-here : typeIn (byteIn s (at .p .0) 0) ≡ typeOf (told .code)
   unfolding typeIn
   type-here = rw (told .typed)
 
-  width-there : typeOf (told .code) ≡ type.Digits0 → cursorOf (s .cur) (spanOf (at .p) 4) + 1 ≤ endOf (s .dir) (spanOf (at .p) 4)
-  width-there h = subst (λ (ty : TokenType). Moved s (at .p) (c .0) ty) h (told .moved) .1
+  width-there : typeOf (told .code) ≡ type.Digits0 → cursorOf (s .cur) (spanOf (at .p .0) 4) + 1 ≤ endOf (s .dir) (spanOf (at .p .0) 4)
+  width-there h = subst (λ (ty : TokenType). Moved s (at .p .0) (c .0) ty) h (told .moved) .1
 
   pub token-inside : Inside (s .bytes) (e .text) t
   token-inside = told .inside
 
-  pub token-keeps : {found : NextByte} → found ≡ byteIn s (at .p) 0 → RoomAt (stepAt s e (at .p)) at (e .text) (e .rows)
-      → Keepable t (typeIn found) (at .p) (at .used + at .len) (at .row + (at .p - 1)) (s .cur) (e .text) (e .rows)
+  pub token-keeps : {found : NextByte} → found ≡ byteIn s (at .p .0) 0 → RoomAt (stepAt s e (at .p .0)) at (e .text) (e .rows)
+      → Keepable t (typeIn found) (at .p .0) (at .used + at .len) (at .row + (at .p .0 - 1)) (s .cur) (e .text) (e .rows)
   token-keeps f r =
       let room = subst (λ (x : Step). RoomAt x at (e .text) (e .rows)) q r in
       record {
@@ -134,6 +134,6 @@ module _ (s : Source) (e : Earlier) (at : Place) (k : Known s e (at .used) (at .
         bytes = room .0;
         table = room .1;
         spans = k .opened .table;
-        typed = omega (arith, told .there, end-below (spanOf (at .p) 0));
-        movable = λ h. omega (arith, width-there (sym type-here ∙ sym (ap typeIn f) ∙ h), end-below (spanOf (at .p) 4));
+        typed = omega (arith, told .there, end-below (spanOf (at .p .0) 0));
+        movable = λ h. omega (arith, width-there (sym type-here ∙ sym (ap typeIn f) ∙ h), end-below (spanOf (at .p .0) 4));
       }

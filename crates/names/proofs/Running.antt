@@ -10,40 +10,44 @@ use lib.Dec.{ltb}
 use lib.ListN.{length, getD, take, length-append}
 use Rattle.base.specs.Memory.{part, written}
 use Rattle.base.proofs.Choice.{pick-true, pick-false, both-of, both-left}
-use Rattle.base.proofs.Memory.{length-part, length-written, written-next}
+use Rattle.base.proofs.Memory.{length-part, written-next}
 use Rattle.base.proofs.Numbers.{by-order}
+use Rattle.base.specs.Every.{Below}
+use Rattle.spans.specs.declared.Position.{Position}
 use Rattle.block.specs.Block.{spanOf, cursorOf}
-use Rattle.tokens.proofs.Laws.{bytes-same}
 use Rattle.base.proofs.Below.{take-written}
 use Rattle.kept.specs.Tables.{rowAt}
 use Rattle.kept.specs.Inside.{RowInside}
 use Rattle.kept.proofs.Frame as frame
 use Rattle.kept.proofs.Frame.{alike-written, row-alike}
 use Rattle.steps.specs.Source.{Source, source, Earlier, earlier, byteIn}
-use Rattle.steps.specs.Sound.{Rows, Below}
-use Rattle.steps.proofs.Laws.{Known, given}
-use Rattle.steps.proofs.Frame.{byte-in-same, step-frame, rows-same}
+use Rattle.steps.specs.Sound.{Rows}
+use Rattle.steps.proofs.Laws.{Known}
 use Rattle.names.specs.declared.Judged.{Judged}
 use Rattle.names.specs.declared.Judged.the-variants as judged
 use Rattle.names.specs.declared.Ran.{Ran}
 use Rattle.names.specs.declared.Ran.the-variants.{On, Long}
-use Rattle.names.specs.Names.{Draft, Named, named, nameFrom}
+use Rattle.names.specs.Names.{Draft, Named, named, typeIn, nameFrom}
 use Rattle.names.specs.Judge.{summary, draftOf}
 use Rattle.names.specs.Keeps.{Memory, memory, Roomy}
 use Rattle.names.specs.Repeats.{RowsSpelt}
-use Rattle.names.specs.Runs.{isMatch, runEnd, textStart, textLength, movedRows, typesPast, Reaches, runOf, runPut}
+use Rattle.names.specs.Runs.{isMatch, runEnd, textStart, textLength, movedRows, typesPast, Reaches, onAt, runOf, runPut}
 use Rattle.names.proofs.Growing.{grows, Alike, name-same}
 use Rattle.names.proofs.Judgement.{judgeFrom, judge-from}
+use Rattle.names.proofs.Behind.{Stays, stays}
 use Rattle.names.proofs.Turns.{Going}
 use Rattle.names.proofs.Matches.{textSize, size-ends, length-size, run-matches, run-few, run-spelt, ran-none, ran-on, ran-long, puts-none}
 use Rattle.names.proofs.OneByOne.{judge-run, judge-long, ranOn, name-run, length-moved, types-later, types-open}
 use Rattle.names.proofs.Spelling.{rows-spelt-same}
 
-never-on : {q l : ℕ} → Long ≡ On q l → ⊥
+never-on : {q l : ℕ} → Long ≡ onAt q l → ⊥
 never-on h = let z : _≡_ {A = ℕ} 0 1 = cc in omega arith
 
-same-on : {p len q l : ℕ} → On p len ≡ On q l → (q ≡ p) × (l ≡ len)
-same-on {p} {len} {q} {l} h = let a : q ≡ p = cc in let b : l ≡ len = cc in (a, b)
+same-on : {p len q l : ℕ} → onAt p len ≡ onAt q l → (q ≡ p) × (l ≡ len)
+same-on {p} {len} {q} {l} h =
+    let a : _≡_ {A = Position} (record { 0 = q }) (record { 0 = p }) = cc in
+    let b : l ≡ len = cc in
+    (ap (λ (x : Position). x .0) a, b)
 
 -- a run that came to something
 record Some (s : Source) (e : Earlier) (end p len q l : ℕ) : Type 0 where
@@ -56,7 +60,7 @@ module _ (s : Source) (e : Earlier) (end p len : ℕ) where
   some-on : (t l q : ℕ) → t ≡ runEnd s p (end - p) → p < t → l ≡ len + textLength (e .rows) (e .first + (p - 1)) (e .first + (t - 1)) → l ≤ 254 → q ≡ t → Some s e end p len q l
   some-on t l q is some wide short same = rw same (record { is = is; some = some; wide = wide; short = short })
 
-  ways : (q l : ℕ) → runOf s e end p len ≡ On q l → ((q ≡ p) × (l ≡ len)) ⊎ Some s e end p len q l
+  ways : (q l : ℕ) → runOf s e end p len ≡ onAt q l → ((q ≡ p) × (l ≡ len)) ⊎ Some s e end p len q l
   ways q l h =
       let t = runEnd s p (end - p) in
       let w = textLength (e .rows) (e .first + (p - 1)) (e .first + (t - 1)) in
@@ -75,7 +79,7 @@ module _ (s : Source) (e : Earlier) (used end p q : ℕ) (k : Rows used e) (r : 
       length-size (e .rows) (e .first) (e .first + e .count) (run-spelt s e used end p q k r low is some .laid) (e .first + (p - 1)) (e .first + (q - 1)) (q - p - 1)
       (omega arith) (omega arith) (omega arith)
 
-  matches : (j : ℕ) → p ≤ j → j < p + suc (q - p - 1) → isMatch (byteIn s j 0) ≡ true
+  matches : (j : ℕ) → p ≤ j → j < p + suc (q - p - 1) → isMatch (typeIn (byteIn s j 0)) ≡ true
   matches j h l = run-matches s (end - p) p j h (omega arith)
 
 -- judged
@@ -101,7 +105,7 @@ module _ (s : Source) (e : Earlier) (used end p len : ℕ) (all : Judged) (k : R
         ),
       )
 
-  pub run-judges : (q l : ℕ) → runOf s e end p len ≡ On q l → (p ≤ q) × ((q ≤ 128) × ((l ≤ 254) × (judgeFrom s e (129 - q) q l (q - 1) ≡ all)))
+  pub run-judges : (q l : ℕ) → runOf s e end p len ≡ onAt q l → (p ≤ q) × ((q ≤ 128) × ((l ≤ 254) × (judgeFrom s e (129 - q) q l (q - 1) ≡ all)))
   run-judges q l h = judges q l (ways s e end p len q l h)
 
   pub run-spoils : runOf s e end p len ≡ Long → judged.Refused 8 ≡ all
@@ -122,7 +126,7 @@ module _ (s : Source) (e : Earlier) (used end p len : ℕ) (all : Judged) (k : R
 -- where a name is only judged, a run leaves the memory
 pub run-leaves : (e : Earlier) (used row p len : ℕ) (r : Ran) (m : Memory) → runPut false e used row p len r m ≡ m
 unfolding runPut
-run-leaves e used row p len (On q l) m = pick-false _ m (both-left (ltb p q) refl)
+run-leaves e used row p len (On q l) m = pick-false _ m (both-left (ltb p (q .0)) refl)
 run-leaves e used row p len Long m = refl
 
 -- what the earlier name's rows tell stays so while a name is kept behind them
@@ -168,7 +172,7 @@ module _ (bytes dir text₀ rows₀ : List ℕ) (first count used row : ℕ) (n 
     spelt : RowsSpelt (earlier text rows first count)
     spelt = run-spelt (source bytes dir cur) (earlier text rows first count) used end p q (g .known) r (g .low) (w .is) (w .some)
 
-    matched : (j : ℕ) → p ≤ j → j < p + suc (q - p - 1) → isMatch (byteIn (source bytes dir cur) j 0) ≡ true
+    matched : (j : ℕ) → p ≤ j → j < p + suc (q - p - 1) → isMatch (typeIn (byteIn (source bytes dir cur) j 0)) ≡ true
     matched = matches (source bytes dir cur) (earlier text rows first count) used end p q (g .known) r (g .low) (w .is) (w .some)
 
     after : Draft
@@ -223,7 +227,7 @@ module _ (bytes dir text₀ rows₀ : List ℕ) (first count used row : ℕ) (n 
           omega (arith, z .more, after-count, room .table, g .lengthRows),
         )
 
-    module _ (text' rows' cur' : List ℕ) (m : memory text' rows' cur' ≡ runPut true (earlier text rows first count) used row p len (On q l) (memory text rows cur)) where
+    module _ (text' rows' cur' : List ℕ) (m : memory text' rows' cur' ≡ runPut true (earlier text rows first count) used row p len (onAt q l) (memory text rows cur)) where
       put-is : memory text' rows' cur' ≡ memory (written text (used + len) again)
           (written rows (5 * (row + (p - 1))) (movedRows rows (first + (p - 1)) (suc (q - p - 1)) (used + len)))
           (typesPast cur p (suc (q - p - 1)))
@@ -262,21 +266,6 @@ module _ (bytes dir text₀ rows₀ : List ℕ) (first count used row : ℕ) (n 
           let some = w .some in
           sym (ap (λ (x : List ℕ). cursorOf x (10 * j + i)) cur-is ∙ types-later (suc (q - p - 1)) cur p (10 * j + i) (omega arith))
 
-      take-same : take used text ≡ take used text'
-      take-same = sym (ap (take used) text-is ∙ take-written text (used + len) again used (omega arith) (omega (arith, text-room)))
-
-      rows-alike : (j : ℕ) → j < 5 * (first + count) → getD rows j 0 ≡ getD rows' j 0
-      rows-alike j h =
-          sym (ap (λ (x : List ℕ). getD x j 0) rows-is
-          ∙ alike-written rows (5 * (row + (p - 1))) (movedRows rows (first + (p - 1)) (suc (q - p - 1)) (used + len)) (first + count) (omega (arith, room .behind)) (omega (arith, rows-room)) j h)
-
-      length-text : length text' ≡ length text
-      length-text = ap length text-is ∙ length-written text (used + len) again text-room
-
-      length-rows : length rows' ≡ length rows
-      length-rows =
-          ap length rows-is ∙ length-written rows (5 * (row + (p - 1))) (movedRows rows (first + (p - 1)) (suc (q - p - 1)) (used + len)) rows-room
-
       low-after : 1 ≤ q
       low-after = omega (arith, g .low, w .some)
 
@@ -284,18 +273,11 @@ module _ (bytes dir text₀ rows₀ : List ℕ) (first count used row : ℕ) (n 
       known-at j h z =
           record { opened = g .opened; rows = g .known; first = omega (arith, low-after); last = z; bytes = bytesBelow; texts = g .belowText; numbers = g .belowRows }
 
-      alike : Alike (source bytes dir cur) (source bytes dir cur') (earlier text rows first count) (earlier text' rows' first count) q
-      alike =
-          record {
-            steps =
-                λ j h z.
-                sym (step-frame bytes dir cur cur' text text' rows rows' first count used j (g .known) (omega (arith, low-after)) (λ i y. span-later j i h y) take-same rows-alike);
-            types = λ j h z. sym (byte-in-same bytes dir cur cur' j (λ i y. span-later j i h y) 0 (omega arith));
-            bytes =
-                λ j h z u v x.
-                let y = given (source bytes dir cur) (earlier text rows first count) used j (known-at j h z) x in
-                sym (bytes-same bytes text text' used u (y .inside) (y .below) take-same);
-          }
+      behind : Stays bytes dir cur cur' text text' rows rows' first count used q
+      behind =
+          stays bytes dir cur cur' text text' rows rows' first count used q (used + len) (row + (p - 1)) again (movedRows rows (first + (p - 1)) (suc (q - p - 1)) (used + len)) text-is rows-is
+          (omega arith) (omega (arith, room .behind)) text-room rows-room
+          (g .known) known-at span-later
 
       text-after : text' ≡ written text₀ used (after .text)
       unfolding after ranOn
@@ -332,15 +314,13 @@ module _ (bytes dir text₀ rows₀ : List ℕ) (first count used row : ℕ) (n 
             counted = omega (arith, after-count, low-after);
             fives = after-rows;
             opened = rw cur-is (types-open (suc (q - p - 1)) bytes dir cur p (omega (arith, few .1, w .some)) (g .opened) matched);
-            known =
-                rows-same text text' rows rows' first count used p (g .known) (g .low) take-same rows-alike
-                (omega (arith, length-text, g .known .room)) (omega (arith, length-rows, g .known .table));
+            known = behind .known;
             goes =
                 name-same (source bytes dir cur) (source bytes dir cur') (earlier text rows first count) (earlier text' rows' first count) used
-                (129 - q) q after (omega (arith, few .1)) alike
+                (129 - q) q after (omega (arith, few .1)) (behind .alike)
                 ∙ ran-goes;
-            lengthText = length-text ∙ g .lengthText;
-            lengthRows = length-rows ∙ g .lengthRows;
+            lengthText = behind .lengthText ∙ g .lengthText;
+            lengthRows = behind .lengthRows ∙ g .lengthRows;
             belowText = bt;
             belowRows = br;
           }
@@ -357,11 +337,11 @@ module _ (bytes dir text₀ rows₀ : List ℕ) (first count used row : ℕ) (n 
   room-of q l (inl w) = rw (w .0, w .1) none-room
   room-of q l (inr w) = some-room q l w
 
-  pub run-room : (q l : ℕ) → runOf (source bytes dir cur) (earlier text rows first count) end p len ≡ On q l
+  pub run-room : (q l : ℕ) → runOf (source bytes dir cur) (earlier text rows first count) end p len ≡ onAt q l
       → (used + l ≤ length text) × (5 * (row + (q - 1)) ≤ length rows)
   run-room q l h = room-of q l (ways (source bytes dir cur) (earlier text rows first count) end p len q l h)
 
-  module _ (q l : ℕ) (text' rows' cur' : List ℕ) (m : memory text' rows' cur' ≡ runPut true (earlier text rows first count) used row p len (On q l) (memory text rows cur))
+  module _ (q l : ℕ) (text' rows' cur' : List ℕ) (m : memory text' rows' cur' ≡ runPut true (earlier text rows first count) used row p len (onAt q l) (memory text rows cur))
       (bt : Below 256 text') (br : Below (2 ^ 32) rows') where
     none-keeps : q ≡ p → l ≡ len → Going bytes dir text₀ rows₀ first count used row (draftOf n) cur' text' rows' q (used + l)
     none-keeps a b =
@@ -376,8 +356,8 @@ module _ (bytes dir text₀ rows₀ : List ℕ) (first count used row : ℕ) (n 
     keeps (inl w) = none-keeps (w .0) (w .1)
     keeps (inr w) = some-keeps q l w text' rows' cur' m bt br
 
-  pub run-keeps : (q l : ℕ) (text' rows' cur' : List ℕ) → runOf (source bytes dir cur) (earlier text rows first count) end p len ≡ On q l
-      → memory text' rows' cur' ≡ runPut true (earlier text rows first count) used row p len (On q l) (memory text rows cur)
+  pub run-keeps : (q l : ℕ) (text' rows' cur' : List ℕ) → runOf (source bytes dir cur) (earlier text rows first count) end p len ≡ onAt q l
+      → memory text' rows' cur' ≡ runPut true (earlier text rows first count) used row p len (onAt q l) (memory text rows cur)
       → Below 256 text' → Below (2 ^ 32) rows'
       → Going bytes dir text₀ rows₀ first count used row (draftOf n) cur' text' rows' q (used + l)
   run-keeps q l text' rows' cur' h m bt br = keeps q l text' rows' cur' m bt br (ways (source bytes dir cur) (earlier text rows first count) end p len q l h)

@@ -1,5 +1,5 @@
 -- A spelt row stays spelt: of the kept text only what stands below matters to it.
-use Prim.Native.Nat.{ℕ, _+_, _-_, _≤_, _<_}
+use Prim.Native.Nat.{ℕ, _+_, _≤_, _<_}
 use mathlib.Core.Path.{_≡_, refl, sym, ap, _∙_, subst}
 use mathlib.Core.List.{List}
 use native.Mathlib.Omega.{arith}
@@ -20,7 +20,6 @@ use Rattle.kept.proofs.Frame.{row-alike}
 use Rattle.steps.specs.Source.{earlier}
 use Rattle.steps.specs.Steps.{tokenOf}
 use Rattle.steps.proofs.Frame.{token-same}
-use Rattle.names.specs.Keeps.{memory}
 use Rattle.names.specs.Repeats.{Spelt, RowsSpelt}
 
 -- a spelt row is spelt in any memory that has the same text below

@@ -5,10 +5,11 @@ use mathlib.Core.Bool.{true}
 use mathlib.Core.List.{List, [], _∷_, _++_}
 use native.Mathlib.Omega.{arith}
 use lib.Dec.{eqb}
-use lib.ListN.{length, take, getD, length-append}
+use lib.ListN.{length, length-append}
 use Rattle.base.specs.Memory.{written}
 use Rattle.base.proofs.Choice.{pick-true, pick-false, by-test}
-use Rattle.base.proofs.Memory.{length-written, written-next, written-none}
+use Rattle.base.proofs.Memory.{written-next, written-none}
+use Rattle.base.specs.Every.{Below}
 use Rattle.spans.specs.declared.Cursor.{Cursor}
 use Rattle.spans.specs.declared.NextByte.{NextByte}
 use Rattle.block.specs.Block.{spanOf, endOf, cursorOf}
@@ -16,22 +17,20 @@ use Rattle.block.specs.Open.{Open}
 use Rattle.tokens.specs.declared.TokenType.{TokenType}
 use Rattle.tokens.specs.declared.Token.{Token}
 use Rattle.tokens.specs.Tokens.{bytesOf, lengthOf, rowOf}
-use Rattle.tokens.proofs.Laws.{length-bytes, length-row, bytes-same}
-use Rattle.base.proofs.Below.{take-written}
-use Rattle.kept.proofs.Frame.{alike-written}
+use Rattle.tokens.proofs.Laws.{length-bytes, length-row}
 use Rattle.steps.specs.declared.Step.{Step}
 use Rattle.steps.specs.declared.Step.the-variants as step
 use Rattle.steps.specs.Source.{Source, source, Earlier, earlier, byteIn}
 use Rattle.steps.specs.Steps.{typedStep, stepAt}
-use Rattle.steps.specs.Sound.{Rows, Below}
+use Rattle.steps.specs.Sound.{Rows}
 use Rattle.steps.proofs.Laws.{Known, Given, given, ended}
-use Rattle.steps.proofs.Frame.{byte-in-same, step-frame, rows-same}
 use Rattle.names.specs.Names.{Draft, draft, Named, named, refused, past, typeIn, valuePast, grown, printable, onward, nameFrom, nameOf}
 use Rattle.names.specs.Names as names
 use Rattle.names.specs.Judge.{draftOf}
 use Rattle.names.specs.Keeps.{Memory, memory, putToken, putName, Roomy}
 use Rattle.names.proofs.Cursors.{open-token, past-later, value-later}
-use Rattle.names.proofs.Growing.{never-named, grows, Alike, name-same, printable-short}
+use Rattle.names.proofs.Behind.{Stays, stays}
+use Rattle.names.proofs.Growing.{never-named, grows, name-same, printable-short}
 
 pub step-of : (s : Source) (e : Earlier) (p : ℕ) {found : NextByte} {r : Step} → found ≡ byteIn s p 0 → r ≡ typedStep s e p found → r ≡ stepAt s e p
 unfolding stepAt
@@ -217,32 +216,11 @@ module _ (bytes dir text₀ rows₀ : List ℕ) (first count used row : ℕ) (n 
       unfolding spanOf
       span-later q i h l = later (10 * q + i) (omega arith)
 
-      take-same : take used text ≡ take used text'
-      take-same =
-          sym (ap (take used) text-is
-          ∙ take-written text at (bytesOf bytes text t) used (omega (arith, g .place)) (omega (arith, token-room .0)))
-
-      rows-alike : (j : ℕ) → j < 5 * (first + count) → getD rows j 0 ≡ getD rows' j 0
-      rows-alike j h =
-          sym (ap (λ (x : List ℕ). getD x j 0) rows-is
-          ∙ alike-written rows (5 * (row + (p - 1))) (rowOf t at) (first + count) (omega (arith, room .behind)) (omega (arith, token-room .1)) j h)
-
-      length-text : length text' ≡ length text
-      length-text = ap length text-is ∙ length-written text at (bytesOf bytes text t) (omega (arith, token-room .0, wide))
-
-      length-rows : length rows' ≡ length rows
-      length-rows = ap length rows-is ∙ length-written rows (5 * (row + (p - 1))) (rowOf t at) (omega (arith, token-room .1, length-row t at))
-
-      alike : Alike (source bytes dir cur) (source bytes dir cur') (earlier text rows first count) (earlier text' rows' first count) (p + 1)
-      alike =
-          record {
-            steps = λ q h l. sym (step-frame bytes dir cur cur' text text' rows rows' first count used q (g .known) (omega arith) (λ i k. span-later q i h k) take-same rows-alike);
-            types = λ q h l. sym (byte-in-same bytes dir cur cur' q (λ i k. span-later q i h k) 0 (omega arith));
-            bytes =
-                λ q h l u v r.
-                let w = given (source bytes dir cur) (earlier text rows first count) used q (known-at q (omega arith) l) r in
-                sym (bytes-same bytes text text' used u (w .inside) (w .below) take-same);
-          }
+      behind : Stays bytes dir cur cur' text text' rows rows' first count used (p + 1)
+      behind =
+          stays bytes dir cur cur' text text' rows rows' first count used (p + 1) at (row + (p - 1)) (bytesOf bytes text t) (rowOf t at) text-is rows-is
+          (omega (arith, g .place)) (omega (arith, room .behind)) (omega (arith, token-room .0, wide)) (omega (arith, token-room .1, length-row t at))
+          (g .known) (λ j h l. known-at j (omega arith) l) span-later
 
       text-grown : text' ≡ written text₀ used (next .text)
       unfolding next grown
@@ -281,15 +259,13 @@ module _ (bytes dir text₀ rows₀ : List ℕ) (first count used row : ℕ) (n 
             counted = omega (arith, next-count, g .counted);
             fives = next-rows;
             opened = rw cur-is (open-token bytes dir cur (g .opened) (earlier text rows first count) p (g .high) q);
-            known =
-                rows-same text text' rows rows' first count used p (g .known) (g .low) take-same rows-alike
-                (omega (arith, token-room .0, g .place, length-text)) (omega (arith, length-rows, g .known .table));
+            known = behind .known;
             goes =
                 name-same (source bytes dir cur) (source bytes dir cur') (earlier text rows first count) (earlier text' rows' first count) used
-                (129 - (p + 1)) (p + 1) next (omega (arith, told .before)) alike
+                (129 - (p + 1)) (p + 1) next (omega (arith, told .before)) (behind .alike)
                 ∙ rest;
-            lengthText = length-text ∙ g .lengthText;
-            lengthRows = length-rows ∙ g .lengthRows;
+            lengthText = behind .lengthText ∙ g .lengthText;
+            lengthRows = behind .lengthRows ∙ g .lengthRows;
             belowText = bt;
             belowRows = br;
           }

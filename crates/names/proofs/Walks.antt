@@ -9,6 +9,7 @@ use lib.ListN.{length}
 use Rattle.base.specs.Choice.{pick}
 use Rattle.base.specs.Memory.{written}
 use Rattle.base.proofs.Choice.{took, left, pick-true, pick-false, by-test, never}
+use Rattle.base.specs.Every.{Below}
 use Rattle.spans.specs.declared.Cursor.{Cursor}
 use Rattle.block.specs.Block.{spanOf, cursorOf}
 use Rattle.block.specs.Open.{Open}
@@ -19,7 +20,7 @@ use Rattle.steps.specs.declared.Step.{Step}
 use Rattle.steps.specs.declared.Step.the-variants as step
 use Rattle.steps.specs.Source.{Source, source, Earlier, earlier, byteIn}
 use Rattle.steps.specs.Steps.{stepAt}
-use Rattle.steps.specs.Sound.{Rows, Below}
+use Rattle.steps.specs.Sound.{Rows}
 use Rattle.steps.proofs.Laws.{Known, given}
 use Rattle.names.specs.declared.Judged.{Judged}
 use Rattle.names.specs.declared.Judged.the-variants as judged
@@ -32,7 +33,7 @@ use Rattle.names.specs.Names.{Named, named, past, typeIn, printable, nam
 use Rattle.names.specs.Judge.{summary, draftOf}
 use Rattle.names.specs.Keeps.{Memory, memory, putToken, putName, Roomy}
 use Rattle.names.specs.Repeats.{Repeats}
-use Rattle.names.specs.Runs.{Reaches, runOf, runPut}
+use Rattle.names.specs.Runs.{Reaches, onAt, runOf, runPut}
 use Rattle.names.specs.Walks.{placeOf, Placed, taken, turnOf, turnPut, endedOf, RoomAt}
 use Rattle.names.proofs.Growing.{printable-short}
 use Rattle.names.proofs.Judgement.{judgeFrom, judge-from, judge-of, refuses, empty, ends, spoils, goes, over}
@@ -102,11 +103,11 @@ reaches-known known used e k r end q =
 -- what a turn asks for, and what it gives
 abbrev pub TurnAsks : Walk → Memory → Place → Type 0
 TurnAsks x m at = Open (x .bytes) (x .dir) (m .cur) × (Rows (at .used) (back x m) × ((Placed at × (x .first + x .count ≤ at .row))
-    × (x .keeping ≡ true → RoomAt (stepAt (src x m) (back x m) (at .p)) at (m .text) (m .rows))))
+    × (x .keeping ≡ true → RoomAt (stepAt (src x m) (back x m) (at .p .0)) at (m .text) (m .rows))))
 
 abbrev pub TurnGives : Walk → Memory → Place → Turn → Memory → Type 0
-TurnGives x m at r m' = (r ≡ turnOf (x .keeping) (x .bytes) (m .text) (at .len) (stepAt (src x m) (back x m) (at .p)))
-    × (m' ≡ turnPut (x .keeping) (x .bytes) (stepAt (src x m) (back x m) (at .p)) (typeIn (byteIn (src x m) (at .p) 0)) at m)
+TurnGives x m at r m' = (r ≡ turnOf (x .keeping) (x .bytes) (m .text) (at .len) (stepAt (src x m) (back x m) (at .p .0)))
+    × (m' ≡ turnPut (x .keeping) (x .bytes) (stepAt (src x m) (back x m) (at .p .0)) (typeIn (byteIn (src x m) (at .p .0) 0)) at m)
 
 -- what a walk answers and leaves
 abbrev pub Done : Walk → Judged → Memory → Type 0
@@ -201,7 +202,7 @@ module _ (x : Walk) (a : Asked x) where
 
       pub run-asks : Open (x .bytes) (x .dir) (m .cur) × (Rows (x .used) (back x m) × (Reaches (x .end) (back x m)
           × (((1 ≤ p) × ((p ≤ 128) × (len ≤ 254))) × (((x .used < 2 ^ 31) × ((x .first + x .count ≤ x .row) × (x .row < 2 ^ 31)))
-          × (x .keeping ≡ true → (q l : ℕ) → runOf (src x m) (back x m) (x .end) p len ≡ ran.On q l
+          × (x .keeping ≡ true → (q l : ℕ) → runOf (src x m) (back x m) (x .end) p len ≡ onAt q l
           → (x .used + l ≤ length (m .text)) × (5 * (x .row + (q - 1)) ≤ length (m .rows)))))))
       run-asks = (
         w .opened,
@@ -220,7 +221,7 @@ module _ (x : Walk) (a : Asked x) where
         ),
       )
 
-      module _ (r : Ran) (is : r ≡ runOf (src x m) (back x m) (x .end) p len) (q l : ℕ) (h : r ≡ ran.On q l) where
+      module _ (r : Ran) (is : r ≡ runOf (src x m) (back x m) (x .end) p len) (q l : ℕ) (h : r ≡ onAt q l) where
         ran-on : (p ≤ q) × ((q ≤ 128) × ((l ≤ 254) × (judgeFrom (src x m) (back x m) (129 - q) q l (q - 1) ≡ summary (name x))))
         ran-on = run-judges (src x m) (back x m) (x .used) (x .end) p len _ (w .known) (w .reaches) (w .low) high (w .short) (w .judges) q l (sym is ∙ h)
 
@@ -228,7 +229,7 @@ module _ (x : Walk) (a : Asked x) where
         run-bounds = (ran-on .0, ran-on .1 .0)
 
         run-puts : (b : Bool) → x .keeping ≡ b → (m' : Memory) → m' ≡ runPut (x .keeping) (back x m) (x .used) (x .row) p len r m
-            → m' ≡ runPut b (back x m) (x .used) (x .row) p len (ran.On q l) m
+            → m' ≡ runPut b (back x m) (x .used) (x .row) p len (onAt q l) m
         run-puts b k m' e = rw (← k, ← h) e
 
         pub walks-run : (m' : Memory) → m' ≡ runPut (x .keeping) (back x m) (x .used) (x .row) p len r m

@@ -1,6 +1,5 @@
 -- What is judged of a name, and the name that is kept.
-use Prim.Native.Nat.{ℕ}
-use mathlib.Core.List.{List, []}
+use mathlib.Core.List.{[]}
 use lib.ListN.{length}
 use Rattle.names.specs.declared.Judged.{Judged}
 use Rattle.names.specs.declared.Judged.the-variants as judged

@@ -1,6 +1,6 @@
 -- "How one name is read", rule 4: position after position, with 8 judged at each token.
 use Prim.Native.Nat.{ℕ, zero, suc, _+_}
-use mathlib.Core.Bool.{Bool, true, false}
+use mathlib.Core.Bool.{Bool}
 use mathlib.Core.List.{List, [], _++_}
 use lib.Dec.{leb, eqb}
 use lib.ListN.{length, set}

@@ -1,30 +1,37 @@
 -- A run of MATCHes: where it ends, and what repeating the earlier name's rows in one go puts down.
 use Prim.Native.Nat.{ℕ, zero, suc, _+_, _-_, _*_, _≤_}
-use mathlib.Core.Bool.{Bool, false}
+use mathlib.Core.Bool.{Bool, true, false}
 use mathlib.Core.List.{List, [], _∷_, _++_}
-use lib.Dec.{leb, ltb, eqb}
+use lib.Dec.{leb, ltb}
 use lib.ListN.{length}
 use Rattle.base.specs.Choice.{pick, both}
 use Rattle.base.specs.Memory.{written, part}
-use Rattle.spans.specs.declared.NextByte.{NextByte}
-use Rattle.spans.specs.declared.NextByte.the-variants as byte
 use Rattle.block.specs.Block.{spanOf}
+use Rattle.tokens.specs.declared.TokenType.{TokenType}
+use Rattle.tokens.specs.declared.TokenType.the-variants as type
 use Rattle.kept.specs.Tables.{rowAt}
 use Rattle.steps.specs.Source.{Source, Earlier, byteIn}
 use Rattle.names.specs.declared.Ran.{Ran}
 use Rattle.names.specs.declared.Ran.the-variants.{On, Long}
-use Rattle.names.specs.Names.{past}
+use Rattle.names.specs.Names.{past, typeIn}
 use Rattle.names.specs.Keeps.{Memory, memory}
 use Rattle.names.specs.Repeats.{RowsSpelt}
 
-unfoldable pub isMatch : NextByte → Bool
-isMatch (byte.Value b c) = eqb b 13
-isMatch byte.Short = false
+abbrev pub isMatch : TokenType → Bool
+isMatch type.Match = true
+isMatch type.String = false
+isMatch type.Char = false
+isMatch type.Digits = false
+isMatch type.Digits0 = false
+isMatch type.Delta = false
+isMatch type.Delta0 = false
+isMatch type.End = false
+isMatch type.Other = false
 
 -- the first position from p on, over at most f of them, whose type isn't MATCH
 unfoldable pub runEnd : Source → ℕ → ℕ → ℕ
 runEnd s p zero = p
-runEnd s p (suc f) = pick (isMatch (byteIn s p 0)) (runEnd s (p + 1) f) p
+runEnd s p (suc f) = pick (isMatch (typeIn (byteIn s p 0))) (runEnd s (p + 1) f) p
 
 -- where the text of row i starts, and how many bytes rows i up to j have, which lie one behind the other
 unfoldable pub textStart : List ℕ → ℕ → ℕ
@@ -49,12 +56,16 @@ typesPast cur p (suc n) = typesPast (past cur (spanOf p 0) 1) (p + 1) n
 abbrev pub Reaches : ℕ → Earlier → Type 0
 Reaches end e = (2 ≤ end → RowsSpelt e) × ((end ≤ e .count + 1) × (end ≤ 128))
 
+-- a name of so many bytes goes on at a position
+abbrev pub onAt : ℕ → ℕ → Ran
+onAt p len = On (record { 0 = p }) len
+
 -- where a name of so many bytes goes on behind a run from position p up to q, or that it gets too long
 unfoldable pub runTo : Earlier → ℕ → ℕ → ℕ → Ran
 runTo e p q len =
-    pick (leb q p) (On p len)
+    pick (leb q p) (onAt p len)
     (pick (leb (len + textLength (e .rows) (e .first + (p - 1)) (e .first + (q - 1))) 254)
-    (On q (len + textLength (e .rows) (e .first + (p - 1)) (e .first + (q - 1))))
+    (onAt q (len + textLength (e .rows) (e .first + (p - 1)) (e .first + (q - 1))))
     Long)
 
 unfoldable pub runOf : Source → Earlier → ℕ → ℕ → ℕ → Ran
@@ -62,10 +73,10 @@ runOf s e end p len = runTo e p (runEnd s p (end - p)) len
 
 -- what the run puts down, where the name is being kept
 unfoldable pub runPut : Bool → Earlier → ℕ → ℕ → ℕ → ℕ → Ran → Memory → Memory
-runPut keeping e used row p len (On q l) m = pick (both keeping (ltb p q))
+runPut keeping e used row p len (On q l) m = pick (both keeping (ltb p (q .0)))
     (memory
     (written (m .text) (used + len) (part (m .text) (textStart (m .rows) (e .first + (p - 1))) (textStart (m .rows) (e .first + (p - 1)) + (l - len))))
-    (written (m .rows) (5 * (row + (p - 1))) (movedRows (m .rows) (e .first + (p - 1)) (q - p) (used + len)))
-    (typesPast (m .cur) p (q - p)))
+    (written (m .rows) (5 * (row + (p - 1))) (movedRows (m .rows) (e .first + (p - 1)) (q .0 - p) (used + len)))
+    (typesPast (m .cur) p (q .0 - p)))
     m
 runPut keeping e used row p len Long m = m

@@ -24,11 +24,11 @@ use Rattle.names.specs.Keeps.{Memory, putToken}
 
 -- where a turn stands: its position, the length so far, and where the text and the rows of the name begin
 abbrev pub placeOf : ℕ → ℕ → ℕ → ℕ → Place
-placeOf p len used row = record { p = p; len = len; used = used; row = row }
+placeOf p len used row = record { p = record { 0 = p }; len = len; used = used; row = row }
 
 -- its numbers within the limits
 abbrev pub Placed : Place → Type 0
-Placed at = ((1 ≤ at .p) × (at .p ≤ 128)) × ((at .len ≤ 254) × ((at .used < 2 ^ 31) × (at .row < 2 ^ 31)))
+Placed at = ((1 ≤ at .p .0) × (at .p .0 ≤ 128)) × ((at .len ≤ 254) × ((at .used < 2 ^ 31) × (at .row < 2 ^ 31)))
 
 -- a token that is kept was judged before
 unfoldable pub taken : Bool → List ℕ → List ℕ → Token → ℕ → Bool
@@ -42,7 +42,7 @@ turnOf keeping bytes text len (step.Refused r) = Refused r
 
 -- and what it puts down
 unfoldable pub turnPut : Bool → List ℕ → Step → TokenType → Place → Memory → Memory
-turnPut keeping bytes (step.Got t c) ty at m = pick keeping (putToken bytes m t ty (at .p) (c .0) (at .used + at .len) (at .row + (at .p - 1))) m
+turnPut keeping bytes (step.Got t c) ty at m = pick keeping (putToken bytes m t ty (at .p .0) (c .0) (at .used + at .len) (at .row + (at .p .0 - 1))) m
 turnPut keeping bytes step.End ty at m = m
 turnPut keeping bytes (step.Refused r) ty at m = m
 
@@ -52,7 +52,7 @@ endedOf keeping n len = pick keeping (judged.Name n len) (pick (eqb len 0) (judg
 
 -- room for a token and its row
 abbrev pub RoomAt : Step → Place → List ℕ → List ℕ → Type 0
-RoomAt (step.Got t c) at text rows = (at .used + at .len + lengthOf t ≤ length text) × (5 * (at .row + (at .p - 1)) + 5 ≤ length rows)
+RoomAt (step.Got t c) at text rows = (at .used + at .len + lengthOf t ≤ length text) × (5 * (at .row + (at .p .0 - 1)) + 5 ≤ length rows)
 RoomAt step.End at text rows = Unit
 RoomAt (step.Refused r) at text rows = Unit
 

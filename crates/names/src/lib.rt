@@ -6,6 +6,8 @@ pub mod moving;
 pub mod runs;
 pub mod walking;
 
+use spans::Position;
+
 // What is judged of a name: how many rows and bytes it has, or its refusal.
 pub enum Judged {
     Name { rows: u32, length: u32 },
@@ -14,7 +16,7 @@ pub enum Judged {
 
 // Behind a run of MATCHes: the next position and the name's length so far, or that the name is too long.
 pub enum Ran {
-    On { p: u32, len: u32 },
+    On { p: Position, len: u32 },
     Long,
 }
 
@@ -27,7 +29,7 @@ pub enum Turn {
 
 // Where a turn stands: its position, the name's length so far, and where the name's text and rows begin.
 pub struct Place {
-    pub p: u32,
+    pub p: Position,
     pub len: u32,
     pub used: u32,
     pub row: u32,

@@ -1,6 +1,5 @@
 // The cursors past what a name has read.
 ghost use mathlib.Core.Path.{_≡_};
-ghost use mathlib.Core.List.{List};
 ghost use Prim.Native.Nat.{_≤_, _<_, _+_, _^_};
 ghost use lib.ListN.{length, set};
 ghost use Rattle.block.specs.Block.{spanOf, cursorOf};

@@ -9,40 +9,49 @@ ghost use Rattle.block.specs.Open.{Open};
 ghost use Rattle.kept.specs.Tables.{rowAt};
 ghost use Rattle.steps.specs.Source.{source, earlier};
 ghost use Rattle.steps.specs.Sound.{Rows};
-ghost use Rattle.names.specs.declared.Ran.the-variants.{On};
 ghost use Rattle.names.specs.Keeps.{memory};
 ghost use Rattle.names.specs.Repeats.{RowsSpelt};
-ghost use Rattle.names.specs.Runs.{isMatch, runEnd, textStart, textLength, movedRows, typesPast, Reaches, runOf, runPut};
+ghost use Rattle.names.specs.Runs.{isMatch, runEnd, textStart, textLength, movedRows, typesPast, Reaches, onAt, runOf, runPut};
 use crate::Ran;
+use crate::keeping;
 use crate::moving;
 use block::Block;
 use block::stream;
-use spans::NextByte;
 use spans::Position;
+use tokens::TokenType;
 
-fn is_match(found: NextByte) -> bool
-    ensures { λ r. ⌜ r ≡ isMatch found ⌝ }
+fn is_match(t: TokenType) -> bool
+    ensures { λ r. ⌜ r ≡ isMatch t ⌝ }
 {
-    match found {
-        NextByte::Value(b, _) => b == 13,
-        NextByte::Short => false,
+    match t {
+        TokenType::Match => true,
+        TokenType::String => false,
+        TokenType::Char => false,
+        TokenType::Digits => false,
+        TokenType::Digits0 => false,
+        TokenType::Delta => false,
+        TokenType::Delta0 => false,
+        TokenType::End => false,
+        TokenType::Other => false,
     }
 }
 
 // The first position from p on that isn't a MATCH, or `end`.
-fn run_end(bytes: &[u8], dir: &[u32], cursors: &[u32], p: u32, end: u32) -> u32
+fn run_end(bytes: &[u8], dir: &[u32], cursors: &[u32], p: Position, end: Position) -> Position
     requires { ⌜ Open (now bytes) (now dir) (now cursors) ⌝ }
-    requires { ⌜ (1 ≤ p) × (end ≤ 128) ⌝ }
-    ensures { λ r. ⌜ r ≡ runEnd (source (now (bytes .entry)) (now (dir .entry)) (now (cursors .entry))) p (end - p) ⌝ }
+    requires { ⌜ (1 ≤ p .0) × (end .0 ≤ 128) ⌝ }
+    ensures { λ r. ⌜ r .0 ≡ runEnd (source (now (bytes .entry)) (now (dir .entry)) (now (cursors .entry))) (p .0) (end .0 - p .0) ⌝ }
 {
-    let mut q = p;
-    while q < end {
-        if !is_match(steps::source::byte_in(bytes, dir, cursors, Position(q), stream::TYPE)) {
-            return q;
+    let stop = end.0;
+    let mut q = p.0;
+    while q < stop {
+        let found = steps::source::byte_in(bytes, dir, cursors, Position(q), stream::TYPE);
+        if !is_match(keeping::type_in(found)) {
+            return Position(q);
         }
         q += 1;
     }
-    q
+    Position(q)
 }
 
 // The first row and the last tell it, since the texts lie one behind the other.
@@ -77,13 +86,14 @@ fn copy_rows(rows: &mut [u32], from: usize, to: usize, row: usize, at: u32)
     }
 }
 
-fn move_types(cursors: &mut [u32], p: u32, q: u32)
-    requires { ⌜ (length (now cursors) ≡ 1290) × (q ≤ 128) ⌝ }
-    requires { ⌜ ((i : ℕ) → p ≤ i → i < q → cursorOf (now cursors) (spanOf i 0) + 1 < 2 ^ 32) ⌝ }
-    ensures { λ _. ⌜ now (cursors .exit) ≡ typesPast (now (cursors .entry)) p (q - p) ⌝ }
+fn move_types(cursors: &mut [u32], p: Position, q: Position)
+    requires { ⌜ (length (now cursors) ≡ 1290) × (q .0 ≤ 128) ⌝ }
+    requires { ⌜ ((i : ℕ) → p .0 ≤ i → i < q .0 → cursorOf (now cursors) (spanOf i 0) + 1 < 2 ^ 32) ⌝ }
+    ensures { λ _. ⌜ now (cursors .exit) ≡ typesPast (now (cursors .entry)) (p .0) (q .0 - p .0) ⌝ }
 {
-    let mut i = p;
-    while i < q {
+    let stop = q.0;
+    let mut i = p.0;
+    while i < stop {
         moving::move_on(cursors, Position(i), stream::TYPE, 1);
         i += 1;
     }
@@ -95,33 +105,33 @@ fn repeat(
     text: &mut [u8],
     rows: &mut [u32],
     first: u32,
-    p: u32,
-    q: u32,
+    p: Position,
+    q: Position,
     w: u32,
     at: u32,
     row: u32,
 )
-    requires { ⌜ (length (now cursors) ≡ 1290) × ((1 ≤ p) × ((p < q) × (q ≤ 128))) ⌝ }
-    requires { ⌜ ((i : ℕ) → p ≤ i → i < q → cursorOf (now cursors) (spanOf i 0) + 1 < 2 ^ 32) ⌝ }
-    requires { ⌜ Rows at (earlier (now text) (now rows) first (q - 1)) ⌝ }
-    requires { ⌜ RowsSpelt (earlier (now text) (now rows) first (q - 1)) ⌝ }
-    requires { ⌜ w ≡ textLength (now rows) (first + (p - 1)) (first + (q - 1)) ⌝ }
+    requires { ⌜ (length (now cursors) ≡ 1290) × ((1 ≤ p .0) × ((p .0 < q .0) × (q .0 ≤ 128))) ⌝ }
+    requires { ⌜ ((i : ℕ) → p .0 ≤ i → i < q .0 → cursorOf (now cursors) (spanOf i 0) + 1 < 2 ^ 32) ⌝ }
+    requires { ⌜ Rows at (earlier (now text) (now rows) first (q .0 - 1)) ⌝ }
+    requires { ⌜ RowsSpelt (earlier (now text) (now rows) first (q .0 - 1)) ⌝ }
+    requires { ⌜ w ≡ textLength (now rows) (first + (p .0 - 1)) (first + (q .0 - 1)) ⌝ }
     requires { ⌜ (at + w ≤ length (now text)) × (at + w < 2 ^ 32) ⌝ }
-    requires { ⌜ (first + (q - 1) ≤ row) × ((row < 2 ^ 31) × (5 * (row + (q - 1)) ≤ length (now rows))) ⌝ }
-    ensures { λ _. ⌜ memory (now (text .exit)) (now (rows .exit)) (now (cursors .exit)) ≡ memory (written (now (text .entry)) at (part (now (text .entry)) (textStart (now (rows .entry)) (first + (p - 1))) (textStart (now (rows .entry)) (first + (p - 1)) + w))) (written (now (rows .entry)) (5 * (row + (p - 1))) (movedRows (now (rows .entry)) (first + (p - 1)) (q - p) at)) (typesPast (now (cursors .entry)) p (q - p)) ⌝ }
+    requires { ⌜ (first + (q .0 - 1) ≤ row) × ((row < 2 ^ 31) × (5 * (row + (q .0 - 1)) ≤ length (now rows))) ⌝ }
+    ensures { λ _. ⌜ memory (now (text .exit)) (now (rows .exit)) (now (cursors .exit)) ≡ memory (written (now (text .entry)) at (part (now (text .entry)) (textStart (now (rows .entry)) (first + (p .0 - 1))) (textStart (now (rows .entry)) (first + (p .0 - 1)) + w))) (written (now (rows .entry)) (5 * (row + (p .0 - 1))) (movedRows (now (rows .entry)) (first + (p .0 - 1)) (q .0 - p .0) at)) (typesPast (now (cursors .entry)) (p .0) (q .0 - p .0)) ⌝ }
 {
-    let from = (first + (p - 1)) as usize;
-    let to = (first + (q - 1)) as usize;
+    let from = (first + (p.0 - 1)) as usize;
+    let to = (first + (q.0 - 1)) as usize;
     let start = rows[5 * from + 3] as usize;
     base::copy_within(text, start, start + w as usize, at as usize);
-    copy_rows(rows, from, to, (row + (p - 1)) as usize, at);
+    copy_rows(rows, from, to, (row + (p.0 - 1)) as usize, at);
     move_types(cursors, p, q);
 }
 
 // The run from position p on, of a name of `len` bytes so far; kept where the name is being kept.
 pub fn run(
     keeping: bool,
-    end: u32,
+    end: Position,
     bytes: &[u8],
     dir: &[u32],
     cursors: &mut [u32],
@@ -131,23 +141,27 @@ pub fn run(
     count: u32,
     used: u32,
     row: u32,
-    p: u32,
+    p: Position,
     len: u32,
 ) -> Ran
     requires { ⌜ Open (now bytes) (now dir) (now cursors) ⌝ }
     requires { ⌜ Rows used (earlier (now text) (now rows) first count) ⌝ }
-    requires { ⌜ Reaches end (earlier (now text) (now rows) first count) ⌝ }
-    requires { ⌜ (1 ≤ p) × ((p ≤ 128) × (len ≤ 254)) ⌝ }
+    requires { ⌜ Reaches (end .0) (earlier (now text) (now rows) first count) ⌝ }
+    requires { ⌜ (1 ≤ p .0) × ((p .0 ≤ 128) × (len ≤ 254)) ⌝ }
     requires { ⌜ (used < 2 ^ 31) × ((first + count ≤ row) × (row < 2 ^ 31)) ⌝ }
-    requires { ⌜ (keeping ≡ true → (q l : ℕ) → runOf (source (now bytes) (now dir) (now cursors)) (earlier (now text) (now rows) first count) end p len ≡ On q l → (used + l ≤ length (now text)) × (5 * (row + (q - 1)) ≤ length (now rows))) ⌝ }
-    ensures { λ r. ⌜ r ≡ runOf (source (now (bytes .entry)) (now (dir .entry)) (now (cursors .entry))) (earlier (now (text .entry)) (now (rows .entry)) first count) end p len ⌝ }
-    ensures { λ r. ⌜ memory (now (text .exit)) (now (rows .exit)) (now (cursors .exit)) ≡ runPut keeping (earlier (now (text .entry)) (now (rows .entry)) first count) used row p len r (memory (now (text .entry)) (now (rows .entry)) (now (cursors .entry))) ⌝ }
+    requires { ⌜ (keeping ≡ true → (q l : ℕ) → runOf (source (now bytes) (now dir) (now cursors)) (earlier (now text) (now rows) first count) (end .0) (p .0) len ≡ onAt q l → (used + l ≤ length (now text)) × (5 * (row + (q - 1)) ≤ length (now rows))) ⌝ }
+    ensures { λ r. ⌜ r ≡ runOf (source (now (bytes .entry)) (now (dir .entry)) (now (cursors .entry))) (earlier (now (text .entry)) (now (rows .entry)) first count) (end .0) (p .0) len ⌝ }
+    ensures { λ r. ⌜ memory (now (text .exit)) (now (rows .exit)) (now (cursors .exit)) ≡ runPut keeping (earlier (now (text .entry)) (now (rows .entry)) first count) used row (p .0) len r (memory (now (text .entry)) (now (rows .entry)) (now (cursors .entry))) ⌝ }
 {
     let q = run_end(bytes, dir, cursors, p, end);
-    if q <= p {
+    if q.0 <= p.0 {
         return Ran::On { p: p, len: len };
     }
-    let w = run_length(rows, (first + (p - 1)) as usize, (first + (q - 1)) as usize);
+    let w = run_length(
+        rows,
+        (first + (p.0 - 1)) as usize,
+        (first + (q.0 - 1)) as usize,
+    );
     if Block::BYTES - len < w {
         return Ran::Long;
     }

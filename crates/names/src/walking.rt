@@ -35,8 +35,8 @@ use spans::Position;
 use steps::Step;
 use tokens::Token;
 
-fn place(p: u32, len: u32, used: u32, row: u32) -> Place
-    ensures { λ r. ⌜ r ≡ placeOf p len used row ⌝ }
+fn place(p: Position, len: u32, used: u32, row: u32) -> Place
+    ensures { λ r. ⌜ r ≡ placeOf (p .0) len used row ⌝ }
 {
     Place {
         p: p,
@@ -60,16 +60,16 @@ fn take(
 ) -> Turn
     requires { ⌜ Inside (now bytes) (now text) t ⌝ }
     requires { ⌜ Placed at ⌝ }
-    requires { ⌜ (keeping ≡ true → Keepable t (typeIn found) (at .p) (at .used + at .len) (at .row + (at .p - 1)) (now cursors) (now text) (now rows)) ⌝ }
+    requires { ⌜ (keeping ≡ true → Keepable t (typeIn found) (at .p .0) (at .used + at .len) (at .row + (at .p .0 - 1)) (now cursors) (now text) (now rows)) ⌝ }
     ensures { λ r. ⌜ r ≡ turnOf keeping (now (bytes .entry)) (now (text .entry)) (at .len) (Got t c) ⌝ }
-    ensures { λ _. ⌜ memory (now (text .exit)) (now (rows .exit)) (now (cursors .exit)) ≡ pick keeping (putToken (now (bytes .entry)) (memory (now (text .entry)) (now (rows .entry)) (now (cursors .entry))) t (typeIn found) (at .p) (c .0) (at .used + at .len) (at .row + (at .p - 1))) (memory (now (text .entry)) (now (rows .entry)) (now (cursors .entry))) ⌝ }
+    ensures { λ _. ⌜ memory (now (text .exit)) (now (rows .exit)) (now (cursors .exit)) ≡ pick keeping (putToken (now (bytes .entry)) (memory (now (text .entry)) (now (rows .entry)) (now (cursors .entry))) t (typeIn found) (at .p .0) (c .0) (at .used + at .len) (at .row + (at .p .0 - 1))) (memory (now (text .entry)) (now (rows .entry)) (now (cursors .entry))) ⌝ }
 {
     if keeping {
         let ty = keeping::type_in(found);
-        let pos = Position(at.p);
+        let p = at.p;
         let to = at.used + at.len;
-        let row = at.row + (at.p - 1);
-        let w = keeping::keep_token(t, bytes, cursors, text, rows, pos, ty, c, to, row);
+        let row = at.row + (p.0 - 1);
+        let w = keeping::keep_token(t, bytes, cursors, text, rows, p, ty, c, to, row);
         return Turn::On(w);
     }
     let w = tokens::length(t);
@@ -95,13 +95,13 @@ fn turn(
     requires { ⌜ Open (now bytes) (now dir) (now cursors) ⌝ }
     requires { ⌜ Rows (at .used) (earlier (now text) (now rows) first count) ⌝ }
     requires { ⌜ Placed at × (first + count ≤ at .row) ⌝ }
-    requires { ⌜ (keeping ≡ true → RoomAt (stepAt (source (now bytes) (now dir) (now cursors)) (earlier (now text) (now rows) first count) (at .p)) at (now text) (now rows)) ⌝ }
-    ensures { λ r. ⌜ r ≡ turnOf keeping (now (bytes .entry)) (now (text .entry)) (at .len) (stepAt (source (now (bytes .entry)) (now (dir .entry)) (now (cursors .entry))) (earlier (now (text .entry)) (now (rows .entry)) first count) (at .p)) ⌝ }
-    ensures { λ _. ⌜ memory (now (text .exit)) (now (rows .exit)) (now (cursors .exit)) ≡ turnPut keeping (now (bytes .entry)) (stepAt (source (now (bytes .entry)) (now (dir .entry)) (now (cursors .entry))) (earlier (now (text .entry)) (now (rows .entry)) first count) (at .p)) (typeIn (byteIn (source (now (bytes .entry)) (now (dir .entry)) (now (cursors .entry))) (at .p) 0)) at (memory (now (text .entry)) (now (rows .entry)) (now (cursors .entry))) ⌝ }
+    requires { ⌜ (keeping ≡ true → RoomAt (stepAt (source (now bytes) (now dir) (now cursors)) (earlier (now text) (now rows) first count) (at .p .0)) at (now text) (now rows)) ⌝ }
+    ensures { λ r. ⌜ r ≡ turnOf keeping (now (bytes .entry)) (now (text .entry)) (at .len) (stepAt (source (now (bytes .entry)) (now (dir .entry)) (now (cursors .entry))) (earlier (now (text .entry)) (now (rows .entry)) first count) (at .p .0)) ⌝ }
+    ensures { λ _. ⌜ memory (now (text .exit)) (now (rows .exit)) (now (cursors .exit)) ≡ turnPut keeping (now (bytes .entry)) (stepAt (source (now (bytes .entry)) (now (dir .entry)) (now (cursors .entry))) (earlier (now (text .entry)) (now (rows .entry)) first count) (at .p .0)) (typeIn (byteIn (source (now (bytes .entry)) (now (dir .entry)) (now (cursors .entry))) (at .p .0) 0)) at (memory (now (text .entry)) (now (rows .entry)) (now (cursors .entry))) ⌝ }
 {
-    let pos = Position(at.p);
-    let found = steps::source::byte_in(bytes, dir, cursors, pos, stream::TYPE);
-    match steps::typed_step(bytes, dir, cursors, text, rows, first, count, pos, found) {
+    let p = at.p;
+    let found = steps::source::byte_in(bytes, dir, cursors, p, stream::TYPE);
+    match steps::typed_step(bytes, dir, cursors, text, rows, first, count, p, found) {
         Step::Got(t, c) => take(keeping, t, found, c, bytes, cursors, text, rows, at),
         Step::End => Turn::End,
         Step::Refused(r) => Turn::Refused(r),
@@ -109,18 +109,25 @@ fn turn(
 }
 
 // END: where the name is kept, byte 10 follows it.
-fn ended(keeping: bool, cursors: &mut [u32], text: &mut [u8], p: u32, used: u32, len: u32) -> Judged
-    requires { ⌜ ((1 ≤ p) × (p ≤ 128)) × ((len ≤ 254) × ((used < 2 ^ 31) × (length (now cursors) ≡ 1290))) ⌝ }
-    requires { ⌜ (keeping ≡ true → (used + len + 1 ≤ length (now text)) × (cursorOf (now cursors) (spanOf p 0) + 1 < 2 ^ 32)) ⌝ }
-    ensures { λ r. ⌜ r ≡ endedOf keeping (p - 1) len ⌝ }
+fn ended(
+    keeping: bool,
+    cursors: &mut [u32],
+    text: &mut [u8],
+    p: Position,
+    used: u32,
+    len: u32,
+) -> Judged
+    requires { ⌜ ((1 ≤ p .0) × (p .0 ≤ 128)) × ((len ≤ 254) × ((used < 2 ^ 31) × (length (now cursors) ≡ 1290))) ⌝ }
+    requires { ⌜ (keeping ≡ true → (used + len + 1 ≤ length (now text)) × (cursorOf (now cursors) (spanOf (p .0) 0) + 1 < 2 ^ 32)) ⌝ }
+    ensures { λ r. ⌜ r ≡ endedOf keeping (p .0 - 1) len ⌝ }
     ensures { λ _. ⌜ now (text .exit) ≡ pick keeping (written (now (text .entry)) (used + len) (10 ∷ [])) (now (text .entry)) ⌝ }
-    ensures { λ _. ⌜ now (cursors .exit) ≡ pick keeping (past (now (cursors .entry)) (spanOf p 0) 1) (now (cursors .entry)) ⌝ }
+    ensures { λ _. ⌜ now (cursors .exit) ≡ pick keeping (past (now (cursors .entry)) (spanOf (p .0) 0) 1) (now (cursors .entry)) ⌝ }
 {
     if keeping {
-        moving::move_on(cursors, Position(p), stream::TYPE, 1);
+        moving::move_on(cursors, p, stream::TYPE, 1);
         base::put_byte(text, (used + len) as usize, 10);
         return Judged::Name {
-            rows: p - 1,
+            rows: p.0 - 1,
             length: len,
         };
     }
@@ -128,17 +135,20 @@ fn ended(keeping: bool, cursors: &mut [u32], text: &mut [u8], p: u32, used: u32,
         return Judged::Refused(8);
     }
     Judged::Name {
-        rows: p - 1,
+        rows: p.0 - 1,
         length: len,
     }
 }
 
 // How far a run of MATCHes may go.
-fn last(known: bool, count: u32) -> u32
+fn last(known: bool, count: u32) -> Position
     requires { ⌜ count ≤ 127 ⌝ }
-    ensures { λ r. ⌜ r ≡ pick known (count + 1) 1 ⌝ }
+    ensures { λ r. ⌜ r .0 ≡ pick known (count + 1) 1 ⌝ }
 {
-    if known { count + 1 } else { 1 }
+    if !known {
+        return Position(1);
+    }
+    Position(count + 1)
 }
 
 // Where it is `known` that the earlier name's rows are spelt, a run of MATCHes is repeated in one go.
@@ -165,9 +175,9 @@ pub fn walk(
     ensures { λ _. ⌜ memory (now (text .exit)) (now (rows .exit)) (now (cursors .exit)) ≡ pick keeping (putName used row (now (text .entry)) (now (rows .entry)) (draftOf (nameOf (source (now (bytes .entry)) (now (dir .entry)) (now (cursors .entry))) (earlier (now (text .entry)) (now (rows .entry)) first count) used (now (cursors .entry))))) (memory (now (text .entry)) (now (rows .entry)) (now (cursors .entry))) ⌝ }
 {
     let end = last(known, count);
-    let mut p: u32 = 1;
+    let mut p = Position(1);
     let mut len: u32 = 0;
-    while p <= Block::TOKENS {
+    while p.0 <= Block::TOKENS {
         let Ran::On { p: q, len: l } = runs::run(
             keeping,
             end,
@@ -189,7 +199,7 @@ pub fn walk(
         match turn(keeping, bytes, dir, cursors, text, rows, first, count, at) {
             Turn::On(w) => {
                 len = l + w;
-                p = q + 1;
+                p = Position(q.0 + 1);
             }
             Turn::End => {
                 return ended(keeping, cursors, text, q, used, l);

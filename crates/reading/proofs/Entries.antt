@@ -16,7 +16,7 @@ use Rattle.kept.specs.declared.Entry.{Entry}
 use Rattle.kept.specs.Tables.{Kept, keeping, room, entryAt}
 use Rattle.kept.specs.Inside.{Counted, TextInside}
 use Rattle.kept.proofs.Laws.{room-holds}
-use Rattle.steps.specs.Source.{source, earlier}
+use Rattle.steps.specs.Source.{source}
 use Rattle.names.specs.Names.{Draft, draft}
 use Rattle.reading.specs.declared.Reading.{Reading}
 use Rattle.reading.specs.declared.Answer.the-variants as answer

@@ -53,20 +53,20 @@ use Rattle.names.proofs.Growing.{never-named, printable-short}
 use Rattle.reading.proofs.Spelling.{tokenRow, token-spelt}
 
 -- a token that prints as many bytes as its row says; a padded number fits its width
-abbrev pub Whole : List ℕ → List ℕ → Token → Type 0
+abbrev Whole : List ℕ → List ℕ → Token → Type 0
 Whole bytes text (String t) = (t .start ≤ t .end) × (t .end ≤ length (pick (t .kept) text bytes))
 Whole bytes text (Char b) = Unit
 Whole bytes text (Digits n) = Unit
 Whole bytes text (Digits0 p) = fitsWidth (p .number) (p .width) ≡ true
 
-pub whole-length : (bytes text : List ℕ) (t : Token) → Whole bytes text t → length (bytesOf bytes text t) ≡ lengthOf t
+whole-length : (bytes text : List ℕ) (t : Token) → Whole bytes text t → length (bytesOf bytes text t) ≡ lengthOf t
 unfolding bytesOf lengthOf
 whole-length bytes text (String t) w = length-part _ _ _ (w .0) (w .1)
 whole-length bytes text (Char b) w = refl
 whole-length bytes text (Digits n) w = refl
 whole-length bytes text (Digits0 p) w = length-padded (p .number) (p .width)
 
-pub whole-kind : (bytes text : List ℕ) (t : Token) (at : ℕ) → Whole bytes text t → lengthOf t ≤ 254 → rowKind (tokenRow t at) ≡ true
+whole-kind : (bytes text : List ℕ) (t : Token) (at : ℕ) → Whole bytes text t → lengthOf t ≤ 254 → rowKind (tokenRow t at) ≡ true
 unfolding lengthOf rowKind kindOf numberOf widthOf pick
 whole-kind bytes text (String t) at w h = refl
 whole-kind bytes text (Char b) at w h = refl
@@ -79,7 +79,7 @@ Fine s e (step.Got t c) = Whole (s .bytes) (e .text) t
 Fine s e step.End = Unit
 Fine s e (step.Refused n) = Unit
 
-pub fresh-whole : (bytes text : List ℕ) (a z : ℕ) → a ≤ z → z ≤ length bytes → Whole bytes text (String (record { kept = false; start = a; end = z }))
+fresh-whole : (bytes text : List ℕ) (a z : ℕ) → a ≤ z → z ≤ length bytes → Whole bytes text (String (record { kept = false; start = a; end = z }))
 unfolding pick
 fresh-whole bytes text a z h l = (h, l)
 
@@ -136,7 +136,7 @@ module _ (s : Source) (e : Earlier) where
         fresh-whole (s .bytes) (e .text) at z m (omega (arith, o .within (spanOf p 1) (span-below p 1 high (omega arith)))))
         (λ h. tt)
 
-    pub row-whole : (r : Row) → RowInside used r → Whole (s .bytes) (e .text) (tokenOf (e .text) r)
+    row-whole : (r : Row) → RowInside used r → Whole (s .bytes) (e .text) (tokenOf (e .text) r)
     unfolding tokenOf
     row-whole r i =
         let u : used ≤ length (e .text) = rows .room in
@@ -200,6 +200,8 @@ pub record Rowed (used : ℕ) (d : Draft) : Type 0 where
   pub spelt : (text : List ℕ) → Holds text used (d .text) → (j : ℕ) → j < d .count → Spelt text (rowAt (d .rows) j)
   pub laid : (j : ℕ) → j + 1 < d .count → rowAt (d .rows) (j + 1) .start ≡ rowAt (d .rows) j .start + rowAt (d .rows) j .length
   pub last : (j : ℕ) → j + 1 ≡ d .count → rowAt (d .rows) j .start + rowAt (d .rows) j .length ≡ used + length (d .text)
+  pub from : (j : ℕ) → j < d .count → (used ≤ rowAt (d .rows) j .start) × (j ≡ 0 → rowAt (d .rows) j .start ≡ used)
+  pub none : d .count ≡ 0 → length (d .text) ≡ 0
 
 -- 8 left every byte allowed
 printable-allowed : (b : List ℕ) (n : ℕ) → printable b n ≡ true → allAllowed b ≡ true
@@ -242,6 +244,12 @@ module _ (s : Source) (e : Earlier) (used p : ℕ) (t : Token) (c : ℕ) (d : Dr
             (eq-or-lt-of-le {n = j + 1} {m = d .count} (omega arith))
             ∙ sym (ap (λ (x : Row). x .start + x .length) (old j (omega arith)));
         last = λ j h. ap (λ (x : Row). x .start + x .length) (new j (omega arith)) ∙ omega arith;
+        from = λ j h.
+            ⊎-elim
+            (λ q. rw (new j q) (omega arith, λ z. omega (arith, r .none (omega arith))))
+            (λ q. rw (old j q) (r .from j q))
+            (eq-or-lt-of-le {n = j} {m = d .count} (omega arith));
+        none = λ h. absurd (omega arith);
       }
 
 module _ (s : Source) (e : Earlier) (used : ℕ) (o : Open (s .bytes) (s .dir) (s .cur)) (rows : Rows used e) where
@@ -250,7 +258,7 @@ module _ (s : Source) (e : Earlier) (used : ℕ) (o : Open (s .bytes) (s .dir) (
     unfolding ended
     ended-rowed q =
         let w : ended p d ≡ D = cc in
-        subst (Rowed used) w (record { fives = r .fives; each = r .each; spelt = r .spelt; laid = r .laid; last = r .last })
+        subst (Rowed used) w (record { fives = r .fives; each = r .each; spelt = r .spelt; laid = r .laid; last = r .last; from = r .from; none = r .none })
 
     onward-rowed : (st : Step) → Fine s e st → onward s e used p d st rest ≡ named D → Rowed used D
     unfolding onward
@@ -281,4 +289,6 @@ module _ (s : Source) (e : Earlier) (used : ℕ) (o : Open (s .bytes) (s .dir) (
     spelt = λ text k j h. absurd (omega arith);
     laid = λ j h. absurd (omega arith);
     last = λ j h. absurd (omega arith);
+    from = λ j h. absurd (omega arith);
+    none = λ h. refl;
   }) q

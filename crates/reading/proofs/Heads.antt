@@ -1,14 +1,15 @@
 -- Position 0, way by way, in a contract's direction; and what a head tells.
-use Prim.Native.Nat.{ℕ, _+_, _-_, _*_, _^_, _≤_, _<_}
+use Prim.Native.Nat.{ℕ, _+_, _*_, _^_, _≤_}
 use mathlib.Core.Path.{_≡_, refl, sym, ap, _∙_}
-use mathlib.Core.Bool.{Bool, true, false}
+use mathlib.Core.Bool.{true, false}
 use mathlib.Core.List.{List}
 use native.Mathlib.Omega.{arith}
-use borrow.Author.Tests.{eq-eqb, ne-eqb, leb-true, eqb-true, eqb-false}
+use borrow.Author.Tests.{eq-eqb, ne-eqb, leb-true, eqb-true}
 use lib.Dec.{leb, eqb}
 use lib.ListN.{set}
-use Rattle.base.specs.Choice.{pick, both}
+use Rattle.base.specs.Choice.{pick}
 use Rattle.base.proofs.Choice.{took, left, pick-true, pick-false, by-test, both-true}
+use Rattle.base.specs.Every.{Below}
 use Rattle.spans.specs.declared.Cursor.{Cursor}
 use Rattle.spans.specs.declared.Distance.{Distance}
 use Rattle.spans.specs.declared.NextByte.{NextByte}
@@ -19,7 +20,6 @@ use Rattle.block.specs.Block.{spanOf, endOf, cursorOf}
 use Rattle.block.specs.Open.{Open}
 use Rattle.block.proofs.Laws.{span-below, span-stream, cursor-set-other, open-set}
 use Rattle.steps.specs.Source.{Source, source, byteIn, fourIn}
-use Rattle.steps.specs.Sound.{Below}
 use Rattle.names.specs.Names.{past}
 use Rattle.names.proofs.Cursors.{byte-reach, four-reach, past-later}
 use Rattle.names.proofs.Frames.{SameFrom}

@@ -22,7 +22,7 @@ use Rattle.block.proofs.Laws.{open-sound, open-inside}
 use Rattle.kept.specs.declared.Entry.{Entry}
 use Rattle.kept.specs.declared.Row.{Row}
 use Rattle.kept.specs.Tables.{Kept, keeping, entryAt, rowAt}
-use Rattle.kept.specs.Judgement.{counts, earlierFits}
+use Rattle.kept.specs.Judgement.{earlierFits}
 use Rattle.kept.specs.Inside.{Counted, EntryInside, RowInside}
 use Rattle.kept.proofs.Laws.{earlier, earlier-fits-of, counts-of, row-more}
 use Rattle.kept.proofs.Frame.{Alike, alike-written, entry-alike, entry-written, row-written, one-entry, entry-more, earlier-more}

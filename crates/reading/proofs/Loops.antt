@@ -1,8 +1,8 @@
 -- Reads one after another, in the form in which the loop's turn wants them; and the public calls, way by way.
-use Prim.Native.Nat.{ℕ, zero, suc, _+_, _-_, _*_, _^_, _≤_, _<_}
+use Prim.Native.Nat.{ℕ, suc, _+_, _-_, _<_}
 use mathlib.Core.Path.{_≡_, refl, sym, ap, _∙_}
 use mathlib.Core.Bool.{Bool, true, false}
-use mathlib.Core.List.{List, []}
+use mathlib.Core.List.{List}
 use native.Mathlib.Omega.{arith}
 use native.Mathlib.Numerals.{add-one}
 use lib.ListN.{length}
@@ -19,8 +19,8 @@ use Rattle.block.proofs.Laws.{judged-open, accepted, accepted-open, verdict-uns
 use Rattle.kept.specs.Tables.{Kept, keeping}
 use Rattle.kept.specs.Judgement.{counts}
 use Rattle.kept.specs.Inside.{Counted}
-use Rattle.kept.proofs.Laws.{counted}
-use Rattle.steps.specs.Source.{Source, source}
+use Rattle.kept.proofs.Laws.{counted, fresh-counted}
+use Rattle.steps.specs.Source.{source}
 use Rattle.reading.specs.declared.Reading.{Reading}
 use Rattle.reading.specs.declared.Answer.{Answer}
 use Rattle.reading.specs.declared.Answer.the-variants as answer
@@ -149,16 +149,7 @@ module _ (bytes dir cur text names rows : List ℕ) (st : State) (count : ℕ) w
       let none : (i : ℕ) → i < s .names → ⊥ = λ i l. omega (arith, ap (λ (x : State). x .names) (c .state)) in (
         accepted-open bytes dir count cur p,
         (
-          rw (c .state)
-              (record {
-                kept = omega arith;
-                limit = c .few;
-                entries = omega arith;
-                used = omega arith;
-                most = omega arith;
-                rowsUsed = omega arith;
-                rowsMost = omega arith;
-              }),
+          rw (c .state) (fresh-counted count text names rows (c .few)),
           λ q. (λ i l. absurd (none i l), λ i l. absurd (none i l)),
         ),
       )

@@ -1,11 +1,10 @@
 -- One read, way by way, in a contract's direction.
-use Prim.Native.Nat.{ℕ, _+_, _-_, _*_, _^_, _≤_, _<_}
+use Prim.Native.Nat.{ℕ, _+_, _-_, _*_, _≤_, _<_}
 use mathlib.Core.Path.{_≡_, refl, sym, ap, _∙_}
 use mathlib.Core.Bool.{Bool, true, false}
 use mathlib.Core.List.{List, []}
 use native.Mathlib.Omega.{arith}
 use borrow.Author.Tests.{eq-eqb, ne-eqb}
-use lib.Dec.{eqb}
 use lib.ListN.{length}
 use Rattle.base.specs.Choice.{pick}
 use Rattle.base.proofs.Choice.{took, left}
@@ -13,12 +12,12 @@ use Rattle.spans.specs.declared.Distance.{Distance}
 use Rattle.block.specs.declared.State.{State}
 use Rattle.block.specs.Block.{allAtEnd}
 use Rattle.kept.specs.declared.Entry.{Entry}
-use Rattle.kept.specs.Tables.{Kept, keeping, entryAt}
+use Rattle.kept.specs.Tables.{keeping, entryAt}
 use Rattle.kept.specs.Judgement.{earlierFits}
-use Rattle.kept.specs.Inside.{Counted, RowsInside}
+use Rattle.kept.specs.Inside.{Counted}
 use Rattle.kept.proofs.Laws.{earlier, earlier-text}
 use Rattle.kept.specs.Inside as inside
-use Rattle.steps.specs.Source.{Source, source, Earlier}
+use Rattle.steps.specs.Source.{source, Earlier}
 use Rattle.steps.specs.Source as steps
 use Rattle.steps.specs.Sound.{Rows}
 use Rattle.steps.proofs.Laws.{rows-judged}
@@ -30,7 +29,6 @@ use Rattle.block.specs.declared.Refusal.the-variants as refusal
 use Rattle.reading.specs.declared.Answer.{Answer}
 use Rattle.reading.specs.declared.Answer.the-variants as answer
 use Rattle.reading.specs.Fits.{Known}
-use Rattle.reading.specs.Heads.{Headed}
 use Rattle.reading.specs.Reads.{Outcome, outcome, reading, finishing, refusing, plain, dupOf, rowsOf, entryBack, dupJudged, diffJudged, headedOf, headOf, nextOf}
 use Rattle.reading.proofs.Entries.{back-entry, refused-at}
 

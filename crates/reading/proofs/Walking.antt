@@ -1,5 +1,5 @@
 -- A name in two walks, the first of which judges it and the second of which keeps it: what is known where each starts, and what each way out leaves.
-use Prim.Native.Nat.{ℕ, _+_, _-_, _*_, _^_, _≤_, _<_}
+use Prim.Native.Nat.{ℕ, _+_, _*_, _^_, _≤_, _<_}
 use mathlib.Core.Path.{_≡_, refl, sym, ap, _∙_}
 use mathlib.Core.Bool.{Bool, true, false}
 use mathlib.Core.List.{List}
@@ -8,12 +8,13 @@ use lib.ListN.{length}
 use Rattle.base.specs.Choice.{pick}
 use Rattle.base.specs.Memory.{written}
 use Rattle.base.proofs.Choice.{by-test, never, pick-true, pick-false, pick-holds}
+use Rattle.base.specs.Every.{Below}
 use Rattle.block.specs.declared.State.{State}
 use Rattle.block.specs.Open.{Open}
 use Rattle.kept.specs.Tables.{keeping}
 use Rattle.kept.specs.Inside.{Counted}
 use Rattle.steps.specs.Source.{source, Earlier, earlier}
-use Rattle.steps.specs.Sound.{Rows, Below}
+use Rattle.steps.specs.Sound.{Rows}
 use Rattle.names.specs.declared.Judged.{Judged}
 use Rattle.names.specs.declared.Judged.the-variants as judged
 use Rattle.names.specs.Names.{Draft, Named, named, refused, nameOf}

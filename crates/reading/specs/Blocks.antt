@@ -5,7 +5,7 @@ use mathlib.Core.List.{List}
 use lib.ListN.{length}
 use Rattle.block.specs.declared.Opened.{Opened}
 use Rattle.block.specs.declared.Opened.the-variants as opened
-use Rattle.block.specs.Block.{Opening, openOf}
+use Rattle.block.specs.Block.{openOf}
 use Rattle.kept.specs.Tables.{Kept, keeping}
 use Rattle.steps.specs.Source.{Source, source}
 use Rattle.reading.specs.declared.Answer.{Answer}

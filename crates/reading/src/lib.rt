@@ -96,7 +96,7 @@ fn keeps(a: Answer) -> bool
 fn goes_on(whole: bool, a: Answer) -> bool
     ensures { λ r. ⌜ r ≡ both whole (isKept a) ⌝ }
 {
-    if whole { keeps(a) } else { false }
+    if keeps(a) { whole } else { false }
 }
 
 // Reads of a whole block, until "done" or a refusal, or one read; each of them the inner one: what it needs holds again after it.

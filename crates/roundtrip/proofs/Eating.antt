@@ -5,7 +5,7 @@ use mathlib.Core.List.{List, [], _∷_, _++_}
 use native.Mathlib.Omega.{arith}
 use borrow.Author.Tests.{eqb-true, eqb-false}
 use lib.Dec.{eqb}
-use lib.ListN.{length, length-append, length-set}
+use lib.ListN.{length, length-append}
 use Rattle.base.proofs.Choice.{by-test}
 use Rattle.base.proofs.Holding.{Holds, holds-left, holds-right}
 use Rattle.block.specs.Block.{startOf, endOf, cursorOf}
@@ -14,6 +14,7 @@ use Rattle.block.proofs.Laws.{cursor-set-same, cursor-set-other}
 use Rattle.laying.specs.Puts.{Put, put, contentOf}
 use Rattle.laying.proofs.Passes.{share-same, share-other, content-more}
 use Rattle.names.specs.Names.{past}
+use Rattle.names.proofs.Cursors.{length-past}
 
 -- What puts add to a span
 
@@ -48,10 +49,6 @@ pub past-other : (cur : List ℕ) (k n i : ℕ) → (i ≡ k → ⊥) → cursor
 unfolding past
 past-other cur k n i f = cursor-set-other cur k (cursorOf cur k + n) i f
 
-pub past-length : (cur : List ℕ) (k n : ℕ) → length (past cur k n) ≡ length cur
-unfolding past
-past-length cur k n = length-set cur k (cursorOf cur k + n)
-
 module _ (bytes dir cur : List ℕ) (k : ℕ) (xs : List ℕ) (ps : List Put) (h : k < 1290) (l : Left bytes dir cur (put k xs ∷ ps)) where
   pub first : First bytes dir cur k xs
   first =
@@ -68,7 +65,7 @@ module _ (bytes dir cur : List ℕ) (k : ℕ) (xs : List ℕ) (ps : List Put) (h
   pub eat : Left bytes dir (past cur k (length xs)) ps
   eat =
       record {
-        table = past-length cur k (length xs) ∙ l .table;
+        table = length-past cur k (length xs) ∙ l .table;
         started = λ i g. by-test (eqb i k)
             (λ t. rw (eqb-true i k t) (omega (arith, l .started k h, past-here cur k (length xs) here)))
             (λ t. omega (arith, l .started i g, past-other cur k (length xs) i (eqb-false i k t)));

@@ -1,5 +1,5 @@
 -- Position 0 read back: DUP or DIFF and its distance.
-use Prim.Native.Nat.{ℕ, _+_, _*_, _^_, _≤_, _<_}
+use Prim.Native.Nat.{ℕ, _+_, _^_, _≤_, _<_}
 use mathlib.Core.Path.{_≡_, refl, ap, _∙_}
 use mathlib.Core.Bool.{true}
 use mathlib.Core.List.{List, [], _∷_}
@@ -18,7 +18,7 @@ use Rattle.names.specs.Names.{past}
 use Rattle.reading.specs.declared.Head.the-variants as head
 use Rattle.reading.specs.Reads.{dupHead, diffHead, typedHead, headOf, headPast}
 use Rattle.laying.specs.Puts.{Put, put}
-use Rattle.roundtrip.proofs.Eating.{Left, first, eat, first-other, past-other}
+use Rattle.roundtrip.proofs.Eating.{Left, first, eat, first-other}
 use Rattle.roundtrip.proofs.Fronts.{byte-first, four-first}
 
 module _ (bytes dir cur : List ℕ) (t i d : ℕ) (low : 1 ≤ i) (high : i ≤ 9) (small : d < 2 ^ 32) (rest : List Put)
@@ -38,11 +38,6 @@ module _ (bytes dir cur : List ℕ) (t i d : ℕ) (low : 1 ≤ i) (high : i ≤ 
   pub head-past : Left bytes dir (headPast cur i) rest
   unfolding headPast fourBytes
   head-past = eat bytes dir (past cur (spanOf 0 0) 1) (spanOf 0 i) (fourBytes d) rest (span-below 0 i (omega arith) high) typed
-
-pub head-later : (cur : List ℕ) (i : ℕ) → i ≤ 9 → (j : ℕ) → 10 ≤ j → cursorOf (headPast cur i) j ≡ cursorOf cur j
-unfolding headPast spanOf
-head-later cur i h j l =
-    past-other (past cur (10 * 0 + 0) 1) (10 * 0 + i) 4 j (λ q. omega arith) ∙ past-other cur (10 * 0 + 0) 1 j (λ q. omega arith)
 
 module _ (bytes dir cur : List ℕ) (n d : ℕ) (small : d < 2 ^ 32) (rest : List Put) where
   pub dup-head : 1 ≤ d → d ≤ n → Left bytes dir cur (put (spanOf 0 0) (5 ∷ []) ∷ put (spanOf 0 5) (fourBytes d) ∷ rest)

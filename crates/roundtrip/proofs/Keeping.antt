@@ -1,7 +1,6 @@
 -- A name that was read is kept: its entry says where it stands, its rows are those of its split, and what was kept before stays.
 use Prim.Native.Nat.{ℕ, _+_, _*_, _≤_, _<_}
 use mathlib.Core.Path.{_≡_, sym, ap, _∙_, subst}
-use mathlib.Core.Bool.{true}
 use mathlib.Core.List.{List, [], _∷_, _++_}
 use native.Mathlib.Omega.{arith}
 use borrow.Author.Tests.{le-leb}
@@ -14,9 +13,7 @@ use Rattle.base.proofs.Holding.{Holds, holds-written, holds-left, holds-part, h
 use Rattle.block.specs.Block.{state}
 use Rattle.kept.specs.declared.Entry.{Entry}
 use Rattle.kept.specs.Tables.{Kept, keeping, entryAt}
-use Rattle.kept.specs.Judgement.{earlierFits}
-use Rattle.kept.specs.Inside.{Counted, TextInside, RowsInside}
-use Rattle.kept.proofs.Laws.{room-of, entry-text-of, entry-rows-of}
+use Rattle.kept.proofs.Laws.{room-of}
 use Rattle.kept.proofs.Frame.{entry-holds}
 use Rattle.kept.proofs.Later.{Later, entry-later}
 use Rattle.steps.specs.Source.{Source, earlier}
@@ -25,7 +22,7 @@ use Rattle.reading.specs.declared.Answer.the-variants as answer
 use Rattle.reading.specs.Reads.{outcome, roomFor, kept, keepOf}
 use Rattle.roundtrip.specs.Rows.{splitRows, tokensIn}
 use Rattle.roundtrip.specs.Back.{NameIs, RowsAre}
-use Rattle.roundtrip.proofs.Spelling.{Good, RowsOf, rows-of-fit, tokens-some, tokens-most, length-split}
+use Rattle.roundtrip.proofs.Spelling.{RowsOf, length-split}
 
 -- entry i says that name i is s; all that it points to is kept
 pub record EntryIs (m : Kept) (i : ℕ) (s : List ℕ) : Type 0 where
@@ -35,20 +32,7 @@ pub record EntryIs (m : Kept) (i : ℕ) (s : List ℕ) : Type 0 where
   pub rows : RowsOf (earlier (m .text) (m .rows) (entryAt (m .names) i .first) (entryAt (m .names) i .rows)) (m .state .text) s
   pub inside : entryAt (m .names) i .first + entryAt (m .names) i .rows ≤ m .state .rows
 
--- so it passes the judgement of an earlier name
-pub entry-fits : (m : Kept) (i : ℕ) (s : List ℕ) → Good s → EntryIs m i s → earlierFits m i ≡ true
-unfolding earlierFits
-entry-fits m i s good is =
-    let e : Entry = entryAt (m .names) i in
-    let n : e .length ≡ length s = is .size in
-    let c : e .rows ≡ tokensIn s = is .rows .many in
-    let t : TextInside (m .state) e = record { some = omega (arith, good .some); most = omega (arith, good .short); ends = omega (arith, is .below) } in
-    let r : RowsInside (m .state) e = record { some = omega (arith, tokens-some s (good .some)); most = omega (arith, tokens-most s); ends = is .inside } in
-    both-of (entry-text-of (m .state) e t)
-    (both-of (entry-rows-of (m .state) e r)
-    (rows-of-fit (earlier (m .text) (m .rows) (e .first) (e .rows)) (m .state .text) s (good .allowed) (is .rows)))
-
--- and its text is the name
+-- so its text is the name
 pub entry-text : (m : Kept) (i : ℕ) (s : List ℕ) → EntryIs m i s
     → part (m .text) (entryAt (m .names) i .start) (entryAt (m .names) i .start + entryAt (m .names) i .length) ≡ s
 entry-text m i s is =
@@ -88,7 +72,7 @@ stays-rows m n i s p h is =
     }
 
 -- one name kept: d is what was read, and its rows, added now or kept before, are `many` rows from `first` on
-module _ (m : Kept) (counted : Counted m) (s : List ℕ) (good : Good s) (d : Draft) (text : d .text ≡ s) (fives : length (d .rows) ≡ 5 * d .count)
+module _ (m : Kept) (s : List ℕ) (d : Draft) (text : d .text ≡ s) (fives : length (d .rows) ≡ 5 * d .count)
     (roomy : m .state .text + length s + 1 ≤ length (m .text)) (fits : 5 * (m .state .names + 1) ≤ length (m .names)) (enough : 5 * (m .state .rows + d .count) ≤ length (m .rows))
     (first many distance : ℕ) where
   abbrev pub after : Kept
@@ -153,18 +137,6 @@ module _ (m : Kept) (counted : Counted m) (s : List ℕ) (good : Good s) (d : Dr
 
   pub after-rows : length (after .rows) ≡ length (m .rows)
   after-rows = length-written (m .rows) (5 * m .state .rows) (d .rows) (omega arith)
-
-  pub after-counted : m .state .names < m .state .count → d .count ≤ 127 → Counted after
-  after-counted h k =
-      record {
-        kept = omega arith;
-        limit = counted .limit;
-        entries = omega (arith, after-names);
-        used = omega (arith, after-texts, text-length);
-        most = omega (arith, counted .most, text-length, good .short);
-        rowsUsed = omega (arith, after-rows);
-        rowsMost = omega (arith, counted .rowsMost);
-      }
 
   -- rows added now
   pub rows-new : d .rows ≡ splitRows s (m .state .text) → d .count ≡ tokensIn s → RowsOf (earlier (after .text) (after .rows) (m .state .rows) (d .count)) (after .state .text) s

@@ -20,7 +20,7 @@ use Rattle.classes.specs.Classes.{isAllowed, allAllowed}
 use Rattle.splitting.specs.declared.Piece.{Piece}
 use Rattle.splitting.specs.declared.Piece.the-variants.{String, Char, Digits, Digits0}
 use Rattle.splitting.specs.Split.{runClass, runAt, cutAt, textPiece, numberPiece, pieceAt}
-use Rattle.splitting.proofs.Runs.{run-range, run-number, cut-last, cut-run, cut-range}
+use Rattle.splitting.proofs.Runs.{run-range, run-number, cut-last, cut-run}
 use Rattle.roundtrip.specs.Rows.{pieceBytes, pieceRow, rowsFrom, countFrom}
 
 pub allowed-range : (b : ℕ) → isAllowed b ≡ true → (33 ≤ b) × (b ≤ 126)
@@ -105,11 +105,6 @@ module _ (s : List ℕ) (good : allAllowed s ≡ true) (at : ℕ) where
         (pick-holds (Cut s at (runAt s at)) (eqb (runClass (getD s at 0)) 1) _ _
         (λ g. number-cut (eqb-true _ _ g))
         (λ g. text-cut (runAt s at) (r .0) (r .1))))
-
-    pub piece-length : (p : ℕ) → length (pieceBytes s (pieceAt s p at)) ≡ cutAt s p at - at
-    piece-length p =
-        let c = cut-range s at h p in
-        ap length (piece-cut p .bytes) ∙ length-part s at (cutAt s p at) (omega arith) (c .1)
 
 -- The rows one by one
 

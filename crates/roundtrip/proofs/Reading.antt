@@ -17,19 +17,21 @@ use Rattle.classes.specs.Classes.{isAllowed, allAllowed}
 use Rattle.spans.specs.Spans.{fourBytes}
 use Rattle.block.specs.Block.{state, spanOf, endOf}
 use Rattle.block.specs.Open.{Open}
-use Rattle.block.proofs.Laws.{open-sound, open-inside, each-at-end}
+use Rattle.block.proofs.Laws.{each-at-end}
 use Rattle.kept.specs.declared.Entry.{Entry}
 use Rattle.kept.specs.Tables.{Kept, entryAt}
 use Rattle.kept.proofs.Later.{Later}
 use Rattle.kept.specs.Judgement.{counts}
 use Rattle.kept.specs.Inside.{Counted}
-use Rattle.kept.proofs.Laws.{counts-of}
 use Rattle.steps.specs.Source.{Source, source, Earlier, earlier}
 use Rattle.names.specs.Names.{Draft, draft, nameOf}
 use Rattle.reading.specs.declared.Head.{Head}
 use Rattle.reading.specs.declared.Head.the-variants as head
 use Rattle.reading.specs.declared.Answer.the-variants as answer
+use Rattle.reading.specs.Fits.{AllFit}
 use Rattle.reading.specs.Reads.{outcome, headOf, keepOf, headPast, dupOf, namedOf, diffOf, rowsOf, none, entryBack, headedOf, nextOf, readOf}
+use Rattle.reading.proofs.Heads.{head-same}
+use Rattle.reading.proofs.Holding.{next-holds, read-next}
 use Rattle.splitting.specs.declared.Reference.the-variants.{Dup, Diff}
 use Rattle.splitting.specs.Choices.{anew, referenceOf, leansOn, choicesOf}
 use Rattle.laying.specs.Puts.{Put, put}
@@ -38,9 +40,9 @@ use Rattle.roundtrip.specs.Rows.{splitRows, tokensIn}
 use Rattle.roundtrip.specs.Room.{textWanted, rowsAdded, rowsFor}
 use Rattle.roundtrip.proofs.Eating.{Left, left-open, left-none}
 use Rattle.roundtrip.proofs.Pieces.{rows-out, count-out}
-use Rattle.roundtrip.proofs.Heading.{head-past, head-later, dup-head, first-head, later-head}
-use Rattle.roundtrip.proofs.Spelling.{Good, RowsOf, Spelt, name-back, tokens-most, length-split}
-use Rattle.roundtrip.proofs.Keeping.{EntryIs, entry-fits, entry-text, after, kept-back, after-text, after-is, after-stays, after-texts, after-names, after-rows, after-counted, rows-new, rows-old}
+use Rattle.roundtrip.proofs.Heading.{head-past, dup-head, first-head, later-head}
+use Rattle.roundtrip.proofs.Spelling.{Good, RowsOf, Spelt, name-back, length-split}
+use Rattle.roundtrip.proofs.Keeping.{EntryIs, entry-text, after, kept-back, after-text, after-is, after-stays, after-texts, after-names, after-rows, rows-new, rows-old}
 
 -- each of the names is one that SAM allows
 unfoldable pub AllGood : List (List ℕ) → Type 0
@@ -51,6 +53,7 @@ AllGood (s ∷ ss) = Good s × AllGood ss
 pub record Reached (bytes dir cur : List ℕ) (m : Kept) (before : List ℕ) (coming : List (List ℕ)) : Type 0 where
   pub left : Left bytes dir cur (putsFrom (m .state .names) before coming)
   pub counted : Counted m
+  pub fits : AllFit m
   pub all : m .state .count ≡ m .state .names + length coming
   pub last : 1 ≤ m .state .names → Good before × EntryIs m (m .state .names - 1) before
   pub good : AllGood coming
@@ -116,11 +119,7 @@ module _ (bytes dir cur : List ℕ) (m : Kept) (before : List ℕ) (directory : 
   opened coming r = left-open bytes dir cur (putsFrom (m .state .names) before coming) directory within (r .left)
 
   judged : (coming : List (List ℕ)) → Reached bytes dir cur m before coming → readOf src m ≡ nextOf src m
-  unfolding readOf
-  judged coming r =
-      pick-true _ _ (open-sound bytes dir cur (opened coming r))
-      ∙ pick-true _ _ (counts-of m (r .counted))
-      ∙ pick-true _ _ (open-inside bytes dir cur (opened coming r))
+  judged coming r = read-next bytes dir cur (m .text) (m .names) (m .rows) (m .state) (opened coming r) (r .counted)
 
   -- with all names read, "done"
   pub done-back : Reached bytes dir cur m before [] → readOf src m ≡ outcome answer.Done cur m
@@ -161,7 +160,7 @@ module _ (bytes dir cur : List ℕ) (m : Kept) (before : List ℕ) (directory : 
     puts ps q = subst (λ (x : List Put). Left bytes dir cur (x ++ putsFrom (k + 1) s ss)) q (r .left)
 
     -- what was read is kept
-    module _ (d : Draft) (text : d .text ≡ s) (fives : length (d .rows) ≡ 5 * d .count) (count : d .count ≡ rowsAdded k before s) (few : d .count ≤ 127) (first many distance : ℕ) where
+    module _ (d : Draft) (text : d .text ≡ s) (fives : length (d .rows) ≡ 5 * d .count) (count : d .count ≡ rowsAdded k before s) (first many distance : ℕ) where
       roomy : m .state .text + length s + 1 ≤ length (m .text)
       roomy = omega (arith, text-room)
 
@@ -172,7 +171,7 @@ module _ (bytes dir cur : List ℕ) (m : Kept) (before : List ℕ) (directory : 
       enough = omega (arith, row-room, count)
 
       abbrev then : Kept
-      then = after m (r .counted) s good d text fives roomy fits enough first many distance
+      then = after m s d text fives roomy fits enough first many distance
 
       kept-read : readOf src m ≡ keepOf src m d first many distance → Left bytes dir (d .cur) (putsFrom (k + 1) s ss)
           → RowsOf (earlier (then .text) (then .rows) first many) (then .state .text) s → first + many ≤ then .state .rows
@@ -181,28 +180,31 @@ module _ (bytes dir cur : List ℕ) (m : Kept) (before : List ℕ) (directory : 
           let all : m .state .count ≡ k + suc (length ss) = r .all in
           let table : 5 * (k + suc (length ss)) ≤ length (m .names) = r .entries in
           let n : length (d .text) ≡ length s = ap length text in
-          let is : EntryIs then k s = after-is m (r .counted) s good d text fives roomy fits enough first many distance rows inside in
+          let is : EntryIs then k s = after-is m s d text fives roomy fits enough first many distance rows inside in
           let t : m .state .text + length (d .text) + 1 ≡ m .state .text + (length s + 1) = omega arith in
           let w : m .state .rows + d .count ≡ m .state .rows + rowsAdded k before s = ap (λ (x : ℕ). m .state .rows + x) count in
           let e : k + 1 - 1 ≡ k = omega arith in
+          let p : readOf src m ≡ outcome (answer.Kept k) (d .cur) then = q ∙ kept-back m s d text fives roomy fits enough first many distance src in
+          let h = rw (sym (judged (s ∷ ss) r) ∙ p) at (next-holds bytes dir cur (m .text) (m .names) (m .rows) (m .state) (opened (s ∷ ss) r) (r .counted)) in
           record {
             now = d .cur;
             next = then;
-            is = q ∙ kept-back m (r .counted) s good d text fives roomy fits enough first many distance src;
+            is = p;
             reached =
                 record {
                   left = l;
-                  counted = after-counted m (r .counted) s good d text fives roomy fits enough first many distance (omega arith) few;
+                  counted = h .counted;
+                  fits = h .fits (r .fits);
                   all = omega arith;
                   last = λ h. (good, subst (λ (i : ℕ). EntryIs then i s) (sym e) is);
                   good = goods;
-                  texts = omega (arith, text-room, after-texts m (r .counted) s good d text fives roomy fits enough first many distance);
-                  entries = omega (arith, after-names m (r .counted) s good d text fives roomy fits enough first many distance);
-                  rows = omega (arith, row-room, count, after-rows m (r .counted) s good d text fives roomy fits enough first many distance);
+                  texts = omega (arith, text-room, after-texts m s d text fives roomy fits enough first many distance);
+                  entries = omega (arith, after-names m s d text fives roomy fits enough first many distance);
+                  rows = omega (arith, row-room, count, after-rows m s d text fives roomy fits enough first many distance);
                 };
-            stays = after-stays m (r .counted) s good d text fives roomy fits enough first many distance;
+            stays = after-stays m s d text fives roomy fits enough first many distance;
             entry = is;
-            text = after-text m (r .counted) s good d text fives roomy fits enough first many distance;
+            text = after-text m s d text fives roomy fits enough first many distance;
             counts = rw (t, w) refl;
           }
 
@@ -220,19 +222,19 @@ module _ (bytes dir cur : List ℕ) (m : Kept) (before : List ℕ) (directory : 
         let old : RowsOf (earlier (m .text) (m .rows) (entry .first) (entry .rows)) (m .state .text) s =
         subst (λ (x : List ℕ). RowsOf (earlier (m .text) (m .rows) (entry .first) (entry .rows)) (m .state .text) x) is (was .1 .rows) in
         let f : 0 ≡ 5 * 0 = omega arith in
-        kept-read d text f c (omega arith) (entry .first) (entry .rows) 1
+        kept-read d text f c (entry .first) (entry .rows) 1
         (headed (head.Dup (record { 0 = 1 })) (dup-head bytes dir cur k 1 (omega arith) (putsFrom (k + 1) s ss) (omega arith) h l)
-        ∙ pick-true _ _ (entry-fits m (k - 1) before (was .0) (was .1)))
+        ∙ pick-true _ _ (r .fits (k - 1) (omega arith)))
         (head-past bytes dir cur 5 5 1 (omega arith) (omega arith) (omega arith) (putsFrom (k + 1) s ss) l)
-        (rows-old m (r .counted) s good d text f (roomy d text f c (omega arith) (entry .first) (entry .rows) 1) (fits d text f c (omega arith) (entry .first) (entry .rows) 1)
-        (enough d text f c (omega arith) (entry .first) (entry .rows) 1) (entry .first) (entry .rows) 1 (entry .first) (entry .rows) old (was .1 .inside))
+        (rows-old m s d text f (roomy d text f c (entry .first) (entry .rows) 1) (fits d text f c (entry .first) (entry .rows) 1)
+        (enough d text f c (entry .first) (entry .rows) 1) (entry .first) (entry .rows) 1 (entry .first) (entry .rows) old (was .1 .inside))
         (omega (arith, was .1 .inside))
 
     -- DIFF, leaning on the rows of an earlier name that is x
     module _ (distance : ℕ) (e : Earlier) (x : List ℕ) (allowed : allAllowed x ≡ true) (o : RowsOf e (m .state .text) x) (added : rowsAdded k before s ≡ tokensIn s)
         (q : readOf src m ≡ diffOf src m distance e) (l : Left bytes dir (headPast cur 6) (tokenPuts s 1 (choicesOf x s) ++ putsFrom (k + 1) s ss)) where
       spelt : Spelt bytes dir s (m .state .text) 127 1 0 (draft [] [] 0 (headPast cur 6)) (putsFrom (k + 1) s ss) (nameOf src e (m .state .text) (headPast cur 6))
-      spelt = name-back bytes dir cur (headPast cur 6) e (m .state .text) x s (putsFrom (k + 1) s ss) allowed good o (head-later cur 6 (omega arith)) l
+      spelt = name-back bytes dir cur (headPast cur 6) e (m .state .text) x s (putsFrom (k + 1) s ss) allowed good o (head-same cur 6 (omega arith)) l
 
       rows : spelt .draft .rows ≡ splitRows s (m .state .text)
       unfolding splitRows
@@ -248,11 +250,10 @@ module _ (bytes dir cur : List ℕ) (m : Kept) (before : List ℕ) (directory : 
           let d : Draft = spelt .draft in
           let f : length (d .rows) ≡ 5 * d .count = ap length rows ∙ length-split s (m .state .text) ∙ ap (λ (n : ℕ). 5 * n) (sym count) in
           let c : d .count ≡ rowsAdded k before s = count ∙ sym added in
-          let few : d .count ≤ 127 = omega (arith, count, tokens-most s) in
-          kept-read d (spelt .text) f c few (m .state .rows) (d .count) distance
+          kept-read d (spelt .text) f c (m .state .rows) (d .count) distance
           (q ∙ ap (namedOf src m distance) (spelt .is)) (spelt .left)
-          (rows-new m (r .counted) s good d (spelt .text) f (roomy d (spelt .text) f c few (m .state .rows) (d .count) distance) (fits d (spelt .text) f c few (m .state .rows) (d .count) distance)
-          (enough d (spelt .text) f c few (m .state .rows) (d .count) distance) (m .state .rows) (d .count) distance rows count)
+          (rows-new m s d (spelt .text) f (roomy d (spelt .text) f c (m .state .rows) (d .count) distance) (fits d (spelt .text) f c (m .state .rows) (d .count) distance)
+          (enough d (spelt .text) f c (m .state .rows) (d .count) distance) (m .state .rows) (d .count) distance rows count)
           (omega arith)
 
     first-back : k ≡ 0 → anew k ≡ true → ReadBack bytes dir cur m before s ss
@@ -273,7 +274,7 @@ module _ (bytes dir cur : List ℕ) (m : Kept) (before : List ℕ) (directory : 
         let was = r .last h in
         diff-back 1 (rowsOf m (entryBack m 1)) before (was .0 .allowed) (was .1 .rows) (added-diff k before s a q)
         (headed (head.Diff (record { 0 = 1 })) (later-head bytes dir cur k 1 (omega arith) (tokenPuts s 1 (choicesOf before s) ++ putsFrom (k + 1) s ss) (omega arith) h l)
-        ∙ pick-false _ _ (ne-eqb 1 0 (λ (w : 1 ≡ 0). omega arith)) ∙ pick-true _ _ (entry-fits m (k - 1) before (was .0) (was .1)))
+        ∙ pick-false _ _ (ne-eqb 1 0 (λ (w : 1 ≡ 0). omega arith)) ∙ pick-true _ _ (r .fits (k - 1) (omega arith)))
         (head-past bytes dir cur 6 6 1 (omega arith) (omega arith) (omega arith) (tokenPuts s 1 (choicesOf before s) ++ putsFrom (k + 1) s ss) l)
 
     -- the next name

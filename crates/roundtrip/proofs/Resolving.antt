@@ -22,7 +22,6 @@ use Rattle.tokens.specs.declared.TokenType.{TokenType}
 use Rattle.tokens.specs.declared.TokenType.the-variants as type
 use Rattle.tokens.specs.declared.Token.{Token}
 use Rattle.tokens.specs.declared.Token.the-variants as token
-use Rattle.tokens.specs.Types.{typeOf}
 use Rattle.tokens.specs.Tokens.{bytesOf, kindOf, numberOf, widthOf, lengthOf, rowOf}
 use Rattle.kept.specs.declared.Row.{Row}
 use Rattle.steps.specs.declared.Step.the-variants as step
@@ -33,26 +32,12 @@ use Rattle.names.specs.Names.{past, valuePast}
 use Rattle.laying.specs.Puts.{Put, put}
 use Rattle.splitting.specs.declared.Piece.{Piece}
 use Rattle.splitting.specs.declared.Piece.the-variants.{String, Char, Digits, Digits0}
-use Rattle.splitting.specs.declared.Choice.{Choice}
-use Rattle.splitting.specs.declared.Choice.the-variants.{Itself, Delta, Delta0, Match, End}
-use Rattle.writing.specs.NamePuts.{typeNumber, pieceType, choiceType, piecePuts}
+use Rattle.writing.specs.NamePuts.{pieceType, piecePuts}
 use Rattle.roundtrip.specs.Rows.{pieceBytes, pieceKind, pieceNumber, pieceWidth, pieceRow}
 use Rattle.roundtrip.proofs.Eating.{Left, First, first, eat, first-other, past-other, eaten}
 use Rattle.roundtrip.proofs.Fronts.{byte-first, four-first, text-first, text-there}
 use Rattle.roundtrip.proofs.Pieces.{Small}
 use Rattle.roundtrip.proofs.Leaning.{RowIs}
-
--- a type's number is read as the type
-pub type-back : (c : Choice) → typeOf (typeNumber (choiceType c)) ≡ choiceType c
-unfolding typeOf typeNumber choiceType pieceType pick
-type-back (Itself (String a e)) = refl
-type-back (Itself (Char b)) = refl
-type-back (Itself (Digits n)) = refl
-type-back (Itself (Digits0 x)) = refl
-type-back (Delta d) = refl
-type-back (Delta0 d) = refl
-type-back Match = refl
-type-back End = refl
 
 -- a token that is token x of s
 pub record Same (bytes text : List ℕ) (s : List ℕ) (x : Piece) (t : Token) : Type 0 where

@@ -19,6 +19,7 @@ use Rattle.block.specs.declared.Refusal.{Refusal}
 use Rattle.block.specs.declared.Refusal.the-variants.{Plain, At}
 use Rattle.block.specs.Block.{Opening, opening, openOf, sound, starts, state}
 use Rattle.block.proofs.Laws.{sound-of, opens-fresh}
+use Rattle.kept.proofs.Laws.{fresh-counted}
 use Rattle.kept.specs.Tables.{Kept, keeping}
 use Rattle.steps.specs.Source.{source}
 use Rattle.reading.specs.declared.Answer.the-variants as answer
@@ -69,16 +70,8 @@ module _ (names : List (List ℕ)) (fine : judgedFrom 0 names ≡ Fine) (few : l
     begun r =
         record {
           left = laid (putsOf names) bytes;
-          counted =
-              record {
-                kept = omega arith;
-                limit = few;
-                entries = omega arith;
-                used = omega arith;
-                most = omega arith;
-                rowsUsed = omega arith;
-                rowsMost = omega arith;
-              };
+          counted = fresh-counted (length names) text table rows few;
+          fits = λ i h. absurd (omega arith);
           all = sym (zero-add (length names));
           last = λ h. absurd (omega arith);
           good = all-good names 0 fine;
@@ -244,10 +237,6 @@ unfolding writeOf judgedOf laidOf
 accepts input dir bytes d c f r =
     ap (λ (w : Writing). w .answer)
     (pick-true _ _ (eq-eqb _ _ d) ∙ pick-true _ _ c ∙ ap (λ (j : Judged). judgedOf j (namesOf input) dir bytes) f ∙ pick-true _ _ (le-leb _ _ r))
-
--- the text that names want is the input's
-pub wanted-input : (input : List ℕ) → ended input ≡ true → textWanted (namesOf input) ≡ length input
-wanted-input input e = sym (listed-length (namesOf input)) ∙ ap length (listed-back input e)
 
 -- The demand
 

@@ -2,13 +2,12 @@
 use Prim.Native.Nat.{ℕ, zero, suc, _+_, _-_, _*_, _≤_, _<_}
 use mathlib.Core.Path.{_≡_, refl, sym, ap, _∙_, subst}
 use mathlib.Core.Bool.{true}
-use mathlib.Core.Logic.{⊎-elim, inl, inr}
+use mathlib.Core.Logic.{⊎-elim}
 use mathlib.Core.List.{List, [], _∷_, _++_, append-assoc, append-nil}
 use native.Mathlib.Omega.{arith}
 use borrow.Author.Tests.{le-leb, ne-eqb, lt-ltb, le-ltb}
 use lib.ListN.{length, take}
 use lib.Seq.{take-length, length-take-le}
-use Rattle.base.specs.Every.{every, numbers}
 use Rattle.base.specs.Memory.{part}
 use Rattle.base.proofs.Choice.{pick-true, pick-false, both-of}
 use Rattle.base.proofs.Lists.{take-part}
@@ -21,9 +20,6 @@ use Rattle.block.specs.Block.{spanOf, cursorOf}
 use Rattle.tokens.specs.declared.Token.{Token}
 use Rattle.tokens.specs.Tokens.{bytesOf}
 use Rattle.kept.specs.declared.Row.{Row}
-use Rattle.kept.specs.Judgement.{rowsFit}
-use Rattle.kept.specs.Inside.{KindInside, RowInside}
-use Rattle.kept.proofs.Laws.{row-fits-of}
 use Rattle.kept.proofs.Frame.{row-holds}
 use Rattle.steps.specs.declared.Step.{Step}
 use Rattle.steps.specs.declared.Step.the-variants as step
@@ -32,8 +28,6 @@ use Rattle.steps.specs.Steps.{hasRow, rowHere, stepAt}
 use Rattle.steps.proofs.Frame.{step-cursors, byte-in-same}
 use Rattle.names.specs.Names.{Draft, draft, Named, named, grown, ended, printable, onward, nameFrom, nameOf}
 use Rattle.laying.specs.Puts.{Put}
-use Rattle.splitting.specs.declared.Piece.{Piece}
-use Rattle.splitting.specs.declared.Piece.the-variants.{String, Char, Digits, Digits0}
 use Rattle.splitting.specs.declared.Choice.{Choice}
 use Rattle.splitting.specs.declared.Choice.the-variants.{End}
 use Rattle.splitting.specs.Split.{cutAt, pieceAt}
@@ -42,7 +36,7 @@ use Rattle.splitting.proofs.Runs.{cut-range, cut-out, cut-before}
 use Rattle.writing.specs.NamePuts.{choicePuts, tokenPuts}
 use Rattle.roundtrip.specs.Rows.{pieceBytes, pieceKind, pieceNumber, pieceWidth, pieceRow, rowsFrom, countFrom, splitRows, tokensIn}
 use Rattle.roundtrip.proofs.Eating.{Left, eaten, left-eaten, eaten-later}
-use Rattle.roundtrip.proofs.Pieces.{Small, piece-cut, piece-length, rows-more, rows-out, count-more, count-out, count-most, length-row, length-rows}
+use Rattle.roundtrip.proofs.Pieces.{piece-cut, rows-more, rows-out, count-more, count-out, count-most, length-row, length-rows}
 use Rattle.roundtrip.proofs.Leaning.{RowIs, Here, choice-right}
 use Rattle.roundtrip.proofs.Stepping.{choice-between, Resolved, resolved, ended-back, ended-past}
 
@@ -305,64 +299,6 @@ unfolding nameOf choicesOf
 name-back bytes dir cur now e used r s rest allowed good o ahead l =
     spelt bytes dir cur e used (o .origin) r s allowed good (o .text) rest 127 1 0 0 (draft [] [] 0 now)
     refl (omega arith) (omega arith) (λ h. omega arith) refl (λ j h. ahead j (omega arith)) (rows-at e used r o) l
-
--- Such rows pass the judgement
-
-kind-fits : (text : List ℕ) (row : Row) (r : List ℕ) (x : Piece) → Small r x → RowIs text row r x → KindInside row
-unfolding pieceKind pieceNumber pieceWidth pieceBytes
-kind-fits text row r (String a e) small i =
-    let k : row .kind ≡ 1 = i .kind in
-    record { kinds = inl k; char = λ q. absurd (omega arith); width = λ q. absurd (omega arith); number = λ q. absurd (omega arith) }
-kind-fits text row r (Char b) small i =
-    let k : row .kind ≡ 2 = i .kind in
-    record { kinds = inr (inl k); char = λ q. i .length; width = λ q. absurd (omega arith); number = λ q. absurd (omega arith) }
-kind-fits text row r (Digits n) small i =
-    let k : row .kind ≡ 7 = i .kind in
-    record { kinds = inr (inr (inr k)); char = λ q. absurd (omega arith); width = λ q. absurd (omega arith); number = λ q. absurd (omega arith) }
-kind-fits text row r (Digits0 x) small i =
-    let k : row .kind ≡ 4 = i .kind in
-    let w : row .width ≡ x .width = i .width in
-    record {
-      kinds = inr (inr (inl k));
-      char = λ q. absurd (omega arith);
-      width = λ q. omega (arith, small .1 .1);
-      number = λ q. rw (i .number, i .width) (small .1 .0);
-    }
-
-module _ (e : Earlier) (used origin : ℕ) (r : List ℕ) (allowed : allAllowed r ≡ true) (text : Holds (e .text) origin r) (below : origin + length r ≤ used) where
-  row-fits : (f p b : ℕ) → 1 ≤ p → RowsAt e origin r (suc f) p b → b < length r → RowInside used (rowHere e p)
-  row-fits f p b low at h =
-      let i = row-is e origin r allowed text f p b low at h in
-      let c = cut-range r b h p in
-      let s : rowHere e p .start ≡ origin + b = row-start e origin r allowed text f p b low at h in
-      let n : rowHere e p .length ≡ cutAt r p b - b = i .length ∙ piece-length r allowed b h p in
-      record { ends = omega arith; kind = kind-fits (e .text) (rowHere e p) r (pieceAt r p b) (piece-cut r allowed b h p .small) i }
-
-  rows-fit-from : (f p b : ℕ) → 1 ≤ p → RowsAt e origin r f p b → rowsFit used (e .rows) (e .first + (p - 1)) (countFrom r f p b) ≡ true
-  unfolding countFrom rowsFit every numbers rowHere
-  rows-fit-from zero p b low at = refl
-  rows-fit-from (suc f) p b low at =
-      ⊎-elim
-      (λ (h : b < length r).
-      let n : ℕ = countFrom r f (p + 1) (cutAt r p b) in
-      let q : countFrom r (suc f) p b ≡ suc n = count-more r f p b h ∙ omega arith in
-      let j : e .first + (p - 1) + 1 ≡ e .first + (p + 1 - 1) = omega arith in
-      ap (rowsFit used (e .rows) (e .first + (p - 1))) q
-      ∙ both-of (row-fits-of used (rowHere e p) (row-fits f p b low at h))
-      (ap (λ (k : ℕ). rowsFit used (e .rows) k n) j ∙ rows-fit-from f (p + 1) (cutAt r p b) (omega arith) (rows-next e origin r allowed text f p b low at)))
-      (λ (h : length r ≤ b). ap (rowsFit used (e .rows) (e .first + (p - 1))) (count-out r (suc f) p b h))
-      (lt-or-ge b (length r))
-
-pub rows-of-fit : (e : Earlier) (used : ℕ) (r : List ℕ) → allAllowed r ≡ true → RowsOf e used r → rowsFit used (e .rows) (e .first) (e .count) ≡ true
-unfolding tokensIn
-rows-of-fit e used r allowed o =
-    let j : e .first ≡ e .first + (1 - 1) = omega arith in
-    ap (λ (n : ℕ). rowsFit used (e .rows) (e .first) n) (o .many) ∙ ap (λ (k : ℕ). rowsFit used (e .rows) k (tokensIn r)) j
-    ∙ rows-fit-from e used (o .origin) r allowed (o .text) (o .below) 127 1 0 (omega arith) (rows-at e used r o)
-
-pub tokens-some : (r : List ℕ) → 1 ≤ length r → 1 ≤ tokensIn r
-unfolding tokensIn
-tokens-some r h = omega (arith, count-more r 126 1 0 h)
 
 pub tokens-most : (r : List ℕ) → tokensIn r ≤ 127
 unfolding tokensIn

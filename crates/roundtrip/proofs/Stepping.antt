@@ -1,12 +1,10 @@
 -- One position read back: its type, then its value, or END.
 use Prim.Native.Nat.{ℕ, _+_, _≤_, _<_}
 use mathlib.Core.Path.{_≡_, refl, sym, ap, _∙_, subst}
-use mathlib.Core.Bool.{Bool, false}
+use mathlib.Core.Bool.{false}
 use mathlib.Core.List.{List, [], _∷_, _++_}
 use native.Mathlib.Omega.{arith}
-use borrow.Author.Tests.{ne-eqb}
-use lib.Dec.{eqb}
-use Rattle.base.proofs.Choice.{pick-true, both-left, pick-holds}
+use Rattle.base.proofs.Choice.{pick-true}
 use Rattle.spans.specs.declared.Cursor.{Cursor}
 use Rattle.spans.specs.declared.NextByte.the-variants as byte
 use Rattle.spans.specs.Spans.{cursor}
@@ -15,22 +13,24 @@ use Rattle.block.proofs.Laws.{span-below}
 use Rattle.tokens.specs.declared.TokenType.{TokenType}
 use Rattle.tokens.specs.declared.TokenType.the-variants as type
 use Rattle.tokens.specs.declared.Token.{Token}
+use Rattle.tokens.proofs.Laws.{type-back}
 use Rattle.steps.specs.declared.Step.the-variants as step
 use Rattle.steps.specs.Source.{source, Earlier, byteIn}
-use Rattle.steps.specs.Steps.{rowHere, matchAt, valueStep, carries, barred, typedStep, stepAt}
-use Rattle.steps.proofs.Ways.{typed-value}
+use Rattle.steps.specs.Steps.{rowHere, matchAt, valueStep, barred, stepAt}
+use Rattle.steps.proofs.Forward.{unbarred-before, unbarred-end, step-typed}
 use Rattle.names.specs.Names.{past, typeIn, valuePast}
 use Rattle.laying.specs.Puts.{Put, put}
 use Rattle.splitting.specs.declared.Piece.{Piece}
 use Rattle.splitting.specs.declared.Piece.the-variants.{String, Char, Digits, Digits0}
 use Rattle.splitting.specs.declared.Choice.{Choice}
 use Rattle.splitting.specs.declared.Choice.the-variants.{Itself, Delta, Delta0, Match, End}
-use Rattle.writing.specs.NamePuts.{typeNumber, pieceType, choiceType, piecePuts, valuePuts, choicePuts}
+use Rattle.tokens.specs.Types.{typeNumber}
+use Rattle.writing.specs.NamePuts.{pieceType, choiceType, piecePuts, valuePuts, choicePuts}
 use Rattle.roundtrip.proofs.Eating.{Left, first, eat, eaten, Between}
 use Rattle.roundtrip.proofs.Fronts.{byte-first}
 use Rattle.roundtrip.proofs.Pieces.{Small}
 use Rattle.roundtrip.proofs.Leaning.{Right}
-use Rattle.roundtrip.proofs.Resolving.{type-back, Same, Valued, piece-valued, delta-valued, delta0-valued, repeated}
+use Rattle.roundtrip.proofs.Resolving.{Same, Valued, piece-valued, delta-valued, delta0-valued, repeated}
 
 -- the puts of a position are in its spans
 piece-between : (s : List ℕ) (p : ℕ) (x : Piece) → Between p (p + 1) (piecePuts s p x)
@@ -84,10 +84,6 @@ pub record Resolved (bytes dir cur : List ℕ) (e : Earlier) (p : ℕ) (s : List
   pub same : Same bytes (e .text) s x token
   pub moved : valuePast (typeIn (byteIn (source bytes dir cur) p 0)) p (next .0) (past cur (spanOf p 0) 1) ≡ eaten cur (choicePuts s p c)
 
-end-unbarred : (p : ℕ) → barred p type.End ≡ false
-unfolding barred carries
-end-unbarred p = pick-holds (λ (b : Bool). b ≡ false) (eqb p 128) false false (λ t. refl) (λ t. refl)
-
 module _ (bytes dir cur : List ℕ) (e : Earlier) (p : ℕ) (s : List ℕ) (c : Choice) (rest : List Put) (high : p ≤ 128) (l : Left bytes dir cur (choicePuts s p c ++ rest)) where
   abbrev number : ℕ
   number = typeNumber (choiceType c)
@@ -97,17 +93,14 @@ module _ (bytes dir cur : List ℕ) (e : Earlier) (p : ℕ) (s : List ℕ) (c : 
   type-here = byte-first bytes dir cur p 0 number (first bytes dir cur (spanOf p 0) (number ∷ []) (valuePuts s p c ++ rest) (span-below p 0 high (omega arith)) l)
 
   typed : barred p (choiceType c) ≡ false → stepAt (source bytes dir cur) e p ≡ valueStep (source bytes dir cur) e p (cursor (cursorOf cur (spanOf p 0) + 1)) (choiceType c)
-  unfolding stepAt
-  typed b =
-      ap (typedStep (source bytes dir cur) e p) type-here
-      ∙ sym (typed-value (source bytes dir cur) e p number (cursor (cursorOf cur (spanOf p 0) + 1)) (sym (type-back c)) b refl)
+  typed b = step-typed (source bytes dir cur) e p type-here (choiceType c) (type-back (choiceType c)) b
 
   type-in : typeIn (byteIn (source bytes dir cur) p 0) ≡ choiceType c
   unfolding typeIn
-  type-in = ap typeIn type-here ∙ type-back c
+  type-in = ap typeIn type-here ∙ type-back (choiceType c)
 
   pub resolved : (x : Piece) → 1 ≤ p → p < 128 → Small s x → Right e p s x c → Resolved bytes dir cur e p s x c
-  unfolding choicePuts eaten barred
+  unfolding choicePuts eaten
   resolved x low below small right =
       let k : Cursor = cursor (cursorOf cur (spanOf p 0) + 1) in
       let v : Valued (source bytes dir cur) e p (past cur (spanOf p 0) 1) k (choiceType c) (valuePuts s p c) s x =
@@ -116,7 +109,7 @@ module _ (bytes dir cur : List ℕ) (e : Earlier) (p : ℕ) (s : List ℕ) (c : 
       record {
         token = v .token;
         next = v .next;
-        gives = typed (both-left (carries (choiceType c)) (ne-eqb p 128 (λ q. omega arith))) ∙ v .gives;
+        gives = typed (unbarred-before p (choiceType c) below) ∙ v .gives;
         same = v .same;
         moved = ap (λ (ty : TokenType). valuePast ty p (v .next .0) (past cur (spanOf p 0) 1)) type-in ∙ v .moved;
       }
@@ -125,7 +118,7 @@ module _ (bytes dir cur : List ℕ) (e : Earlier) (p : ℕ) (s : List ℕ) (c : 
 pub ended-back : (bytes dir cur : List ℕ) (e : Earlier) (p : ℕ) (s : List ℕ) (rest : List Put) → p ≤ 128 → Left bytes dir cur (choicePuts s p End ++ rest)
     → stepAt (source bytes dir cur) e p ≡ step.End
 unfolding choiceType valueStep
-ended-back bytes dir cur e p s rest high l = typed bytes dir cur e p s End rest high l (end-unbarred p)
+ended-back bytes dir cur e p s rest high l = typed bytes dir cur e p s End rest high l (unbarred-end p)
 
 pub ended-past : (bytes dir cur : List ℕ) (p : ℕ) (s : List ℕ) (rest : List Put) → p ≤ 128 → Left bytes dir cur (choicePuts s p End ++ rest)
     → Left bytes dir (past cur (spanOf p 0) 1) rest

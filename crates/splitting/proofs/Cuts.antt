@@ -1,7 +1,6 @@
 -- Cuts: where a token ends, and that a run of digits is read while its end is looked for.
 use Prim.Native.Nat.{ℕ, _+_, _-_, _*_, _^_, _≤_, _<_}
 use mathlib.Core.Path.{_≡_, refl, sym, ap, _∙_}
-use mathlib.Core.Bool.{true}
 use mathlib.Core.List.{List}
 use native.Mathlib.Omega.{arith}
 use borrow.Author.Tests.{eq-eqb, ne-eqb, eqb-true, lt-ltb}
@@ -9,12 +8,12 @@ use lib.Dec.{eqb, ltb}
 use lib.ListN.{length, getD}
 use Rattle.base.specs.Memory.{part}
 use Rattle.base.proofs.Choice.{pick-true, pick-false, by-test}
-use Rattle.digits.specs.Digits.{allDigits, valueFrom, valueOf}
+use Rattle.digits.specs.Digits.{valueFrom, valueOf}
 use Rattle.digits.proofs.Laws.{digit-range}
 use Rattle.digits.proofs.Steps.{value-more, value-last, ten-more, below-eight}
 use Rattle.splitting.specs.declared.Cut.{Cut}
 use Rattle.splitting.specs.Split.{runClass, runEnd, runLimit, runAt, cutAt, numberRun, cutOf}
-use Rattle.splitting.proofs.Runs.{digit-run, run-here, run-next, run-out, run-low, run-high, run-digits, cut-run}
+use Rattle.splitting.proofs.Runs.{digit-run, run-here, run-next, run-out, run-low, run-high, cut-run}
 
 -- A run of digits
 
@@ -70,13 +69,12 @@ module _ (s : List ℕ) (at to n i : ℕ) (k : Said s at to n i) (h : to ≤ len
         let j : runEnd s 1 (i + 1) (to - (i + 1)) ≡ all = run-next s 1 i to l e ∙ k .ends in
         let low : i < all = omega (arith, j, run-low s 1 (to - (i + 1)) (i + 1)) in
         let high : all ≤ length s = omega (arith, run-high s 1 (to - at) at) in
-        let digits : allDigits (part s i all) ≡ true = ap (λ (x : ℕ). allDigits (part s i x)) (sym (k .ends)) ∙ run-digits s (to - i) i (omega arith) in
         record {
           begun = omega arith;
           within = omega arith;
           small = ten-more n (getD s i 0 - 48) (i - at) (i + 1 - at) (omega arith) (omega arith) (k .small);
           ends = j;
-          rest = value-more s i all low high digits n _ (k .rest);
+          rest = value-more s i all low high n _ (k .rest);
         }
 
 -- Cuts

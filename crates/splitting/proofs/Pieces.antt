@@ -1,16 +1,14 @@
 -- What holds of a token and of a choice by cases: a token lies in its name, and a choice other than a delta, MATCH or END is the token itself.
 use Prim.Native.Nat.{ℕ, _+_, _≤_, _<_}
 use mathlib.Core.Path.{_≡_, sym, subst}
-use mathlib.Core.Bool.{Bool, true, false}
 use mathlib.Core.List.{List}
 use native.Mathlib.Omega.{arith}
 use borrow.Author.Tests.{eqb-true, eqb-false}
 use lib.Dec.{eqb, ltb}
 use lib.ListN.{length, getD}
-use Rattle.base.specs.Choice.{pick}
 use Rattle.base.specs.Memory.{part}
 use Rattle.base.specs.Same.{same}
-use Rattle.base.proofs.Choice.{by-test, pick-true, pick-false}
+use Rattle.base.proofs.Choice.{by-test, pick-true, pick-false, pick-either}
 use Rattle.tokens.specs.declared.Padded.{Padded}
 use Rattle.splitting.specs.declared.Piece.{Piece}
 use Rattle.splitting.specs.declared.Piece.the-variants.{String, Char, Digits, Digits0}
@@ -22,23 +20,17 @@ use Rattle.splitting.specs.Choices.{Within, ChoiceWithin, riseOf, leanSt
 use Rattle.splitting.proofs.Runs.{run-number, cut-last, cut-run, cut-range}
 use Rattle.splitting.specs.declared.Rise.the-variants as rise
 
--- what holds of both holds of the one picked
-either-way : {A : Type 0} (P : A → Type 0) (b : Bool) (x y : A) → P x → P y → P (pick b x y)
-unfolding pick
-either-way P true x y p q = p
-either-way P false x y p q = q
-
 -- a token, by its kind
 module _ (P : Piece → Type 0) (s : List ℕ) (p at : ℕ) (h : at < length s)
     (string : P (String at (cutAt s p at))) (char : P (Char (getD s at 0)))
     (digits : (n : ℕ) → P (Digits n)) (digits0 : (x : Padded) → x .width ≤ 9 → P (Digits0 x)) where
   text-case : P (textPiece s at (cutAt s p at))
   unfolding textPiece
-  text-case = either-way P (eqb (cutAt s p at) (at + 1)) _ _ char string
+  text-case = pick-either P (eqb (cutAt s p at) (at + 1)) _ _ char string
 
   number-case : runClass (getD s at 0) ≡ 1 → P (numberPiece s at (runAt s at))
   unfolding numberPiece
-  number-case e = either-way P (eqb (getD s at 0) 48) _ _ (digits0 _ (run-number s at h e .0)) (digits _)
+  number-case e = pick-either P (eqb (getD s at 0) 48) _ _ (digits0 _ (run-number s at h e .0)) (digits _)
 
   pub piece-cases : P (pieceAt s p at)
   unfolding pieceAt
@@ -64,12 +56,12 @@ module _ (P : Choice → Type 0) (match : P Match) (delta : (d : ℕ) → P (Del
 
   pub lean-cases : (s : List ℕ) (t : Piece) (r : List ℕ) (u : Piece) → P (Itself t) → P (lean s t r u)
   unfolding lean leanString leanChar leanDigits leanDigits0
-  lean-cases s (String a e) r (String b f) q = either-way P (same (part s a e) (part r b f)) Match (Itself (String a e)) match q
+  lean-cases s (String a e) r (String b f) q = pick-either P (same (part s a e) (part r b f)) Match (Itself (String a e)) match q
   lean-cases s (String a e) r (Char b) q = q
   lean-cases s (String a e) r (Digits m) q = q
   lean-cases s (String a e) r (Digits0 y) q = q
   lean-cases s (Char a) r (String b f) q = q
-  lean-cases s (Char a) r (Char b) q = either-way P (eqb a b) Match (Itself (Char a)) match q
+  lean-cases s (Char a) r (Char b) q = pick-either P (eqb a b) Match (Itself (Char a)) match q
   lean-cases s (Char a) r (Digits m) q = q
   lean-cases s (Char a) r (Digits0 y) q = q
   lean-cases s (Digits n) r (String b f) q = q
@@ -80,11 +72,11 @@ module _ (P : Choice → Type 0) (match : P Match) (delta : (d : ℕ) → P (Del
   lean-cases s (Digits0 x) r (Char b) q = q
   lean-cases s (Digits0 x) r (Digits m) q = q
   lean-cases s (Digits0 x) r (Digits0 y) q =
-      either-way P (eqb (x .width) (y .width)) (byRise0 x (riseOf (y .number) (x .number))) (Itself (Digits0 x)) (rise0-case x (riseOf (y .number) (x .number)) q) q
+      pick-either P (eqb (x .width) (y .width)) (byRise0 x (riseOf (y .number) (x .number))) (Itself (Digits0 x)) (rise0-case x (riseOf (y .number) (x .number)) q) q
 
   pub choice-cases : (r s : List ℕ) (p a b : ℕ) → P (Itself (pieceAt s p a)) → P (choiceAt r s p a b)
   unfolding choiceAt
-  choice-cases r s p a b q = either-way P (ltb b (length r)) _ _ (lean-cases s (pieceAt s p a) r (pieceAt r p b) q) q
+  choice-cases r s p a b q = pick-either P (ltb b (length r)) _ _ (lean-cases s (pieceAt s p a) r (pieceAt r p b) q) q
 
 pub piece-within : (s : List ℕ) (p at : ℕ) → at < length s → Within s (pieceAt s p at)
 piece-within s p at h =

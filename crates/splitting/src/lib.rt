@@ -10,6 +10,7 @@ ghost use Rattle.splitting.specs.Split.{runClass, runEnd, numberRun, run
 ghost use Rattle.splitting.specs.Choices.{Within, riseOf, leanString, leanChar, byRise, leanDigits, byRise0, leanDigits0, lean, choiceAt, anew, referenceOf, leansOn};
 use block::Block;
 use spans::Distance;
+use spans::Position;
 use tokens::Padded;
 
 // The last position of a token; END comes behind it.
@@ -111,14 +112,14 @@ fn digits_limit(name: &[u8], at: usize) -> usize
 }
 
 // Where the token that begins at a place ends.
-pub fn cut_at(table: &[u8; 256], name: &[u8], p: u32, at: usize) -> Cut
+pub fn cut_at(table: &[u8; 256], name: &[u8], p: Position, at: usize) -> Cut
     requires { ⌜ now table ≡ classTable ⌝ }
-    ensures { λ r. ⌜ r ≡ cutOf (now (name .entry)) p at ⌝ }
+    ensures { λ r. ⌜ r ≡ cutOf (now (name .entry)) (p .0) at ⌝ }
 {
     if name.len() <= at {
         return Cut { end: at, number: 0 };
     }
-    if p == LAST {
+    if p.0 == LAST {
         return Cut {
             end: name.len(),
             number: 0,
@@ -153,12 +154,12 @@ fn number_piece(name: &[u8], at: usize, end: usize, number: u32) -> Piece
 }
 
 // The token that begins at a place, cut.
-fn piece_at(table: &[u8; 256], name: &[u8], p: u32, at: usize, cut: Cut) -> Piece
+fn piece_at(table: &[u8; 256], name: &[u8], p: Position, at: usize, cut: Cut) -> Piece
     requires { ⌜ now table ≡ classTable ⌝ }
-    requires { ⌜ (at < length (now name)) × (cut ≡ cutOf (now name) p at) ⌝ }
-    ensures { λ r. ⌜ r ≡ pieceAt (now (name .entry)) p at ⌝ }
+    requires { ⌜ (at < length (now name)) × (cut ≡ cutOf (now name) (p .0) at) ⌝ }
+    ensures { λ r. ⌜ r ≡ pieceAt (now (name .entry)) (p .0) at ⌝ }
 {
-    if p == LAST {
+    if p.0 == LAST {
         return text_piece(name, at, cut.end);
     }
     if run_class(table, name[at]) == 1 {
@@ -284,15 +285,15 @@ pub fn choice_at(
     table: &[u8; 256],
     before: &[u8],
     name: &[u8],
-    p: u32,
+    p: Position,
     a: usize,
     e: Cut,
     b: usize,
     f: Cut,
 ) -> Choice
     requires { ⌜ now table ≡ classTable ⌝ }
-    requires { ⌜ (a < length (now name)) × ((e ≡ cutOf (now name) p a) × (f ≡ cutOf (now before) p b)) ⌝ }
-    ensures { λ r. ⌜ r ≡ choiceAt (now (before .entry)) (now (name .entry)) p a b ⌝ }
+    requires { ⌜ (a < length (now name)) × ((e ≡ cutOf (now name) (p .0) a) × (f ≡ cutOf (now before) (p .0) b)) ⌝ }
+    ensures { λ r. ⌜ r ≡ choiceAt (now (before .entry)) (now (name .entry)) (p .0) a b ⌝ }
 {
     let t = piece_at(table, name, p, a, e);
     if before.len() <= b {

@@ -11,6 +11,7 @@ use lib.ListN.{length, getD}
 use Rattle.base.specs.Choice.{pick}
 use Rattle.base.proofs.Choice.{pick-true, pick-false, both-true, both-of, by-test, never, pick-holds}
 use Rattle.base.proofs.Numbers.{lt-or-ge}
+use Rattle.base.specs.Every.{Below}
 use Rattle.digits.specs.Digits.{fitsWidth}
 use Rattle.spans.specs.declared.Cursor.{Cursor}
 use Rattle.spans.specs.declared.NextByte.{NextByte}
@@ -38,7 +39,7 @@ use Rattle.steps.specs.declared.Step.{Step}
 use Rattle.steps.specs.declared.Step.the-variants.{Got, End, Refused}
 use Rattle.steps.specs.Source.{Source, Earlier, earlier, byteIn, fourIn, textIn}
 use Rattle.steps.specs.Steps.{stringStep, charStep, digitsStep, paddedStep, widthStep, digits0Step, deltaStep, delta0Step, tokenOf, hasRow, rowHere, hasKind, deltaAt, delta0At, matchAt, valueStep, carries, barred, typedStep, stepAt}
-use Rattle.steps.specs.Sound.{Rows, reach, Below}
+use Rattle.steps.specs.Sound.{Rows, reach}
 use Rattle.steps.proofs.Moves.{at, stop, byte-cases, four-cases, text-cases, Moved, value-moved}
 
 -- what is known where a step is taken

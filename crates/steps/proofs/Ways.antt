@@ -19,7 +19,7 @@ use Rattle.kept.specs.Tables.{rowAt}
 use Rattle.steps.specs.declared.Step.{Step}
 use Rattle.steps.specs.declared.Step.the-variants.{Got, Refused}
 use Rattle.steps.specs.Source.{Source, Earlier, byteIn}
-use Rattle.steps.specs.Steps.{paddedStep, deltaStep, delta0Step, tokenOf, hasRow, rowHere, hasKind, deltaAt, delta0At, matchAt, valueStep, barred, typedStep}
+use Rattle.steps.specs.Steps.{deltaStep, delta0Step, tokenOf, hasRow, rowHere, hasKind, deltaAt, delta0At, matchAt, valueStep, barred, typedStep}
 
 module _ (s : Source) (e : Earlier) (p : ℕ) where
   pub delta-none : e .count < p → Refused 5 ≡ deltaAt s e p
@@ -66,10 +66,6 @@ module _ (n d : ℕ) (c : Cursor) where
   pub sum-long : 2 ^ 32 ≤ n + d → Refused 6 ≡ deltaStep n (byte.Value d c)
   unfolding deltaStep
   sum-long h = left _ _ (le-ltb _ _ h) refl
-
-  pub sum0-fits : (w : ℕ) {x : Step} → n + d < 2 ^ 32 → x ≡ paddedStep (n + d) w c → x ≡ delta0Step n w (byte.Value d c)
-  unfolding delta0Step pick
-  sum0-fits w h x = rw (lt-ltb _ _ h, x)
 
   pub sum0-long : (w : ℕ) → 2 ^ 32 ≤ n + d → Refused 6 ≡ delta0Step n w (byte.Value d c)
   unfolding delta0Step

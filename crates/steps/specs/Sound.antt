@@ -1,7 +1,7 @@
 -- What a step may go by: the earlier name's rows stand in the table and point inside, as the judgement of them found.
 use Prim.Native.Nat.{ℕ, _+_, _-_, _*_, _^_, _≤_, _<_, min}
 use mathlib.Core.List.{List}
-use lib.ListN.{length, getD}
+use lib.ListN.{length}
 use Rattle.kept.specs.Tables.{rowAt}
 use Rattle.kept.specs.Inside.{RowInside}
 use Rattle.steps.specs.Source.{Earlier}
@@ -16,7 +16,3 @@ pub record Rows (used : ℕ) (e : Earlier) : Type 0 where
 -- as far as a number of 32 bits reaches into a text
 abbrev pub reach : List ℕ → ℕ
 reach text = min (length text) (2 ^ 32 - 1)
-
--- every number of a list is below a bound
-abbrev pub Below : ℕ → List ℕ → Type 0
-Below n l = (i : ℕ) → getD l i 0 < n

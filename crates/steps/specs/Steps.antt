@@ -91,7 +91,7 @@ delta0At s e p = pick (hasKind e p 4) (delta0Step (rowHere e p .number) (rowHere
 unfoldable pub matchAt : Earlier → ℕ → Cursor → Step
 matchAt e p c = pick (hasRow e p) (Got (tokenOf (e .text) (rowHere e p)) c) (Refused 5)
 
--- a token of each type but END; c is the cursor past the type
+-- what each type gives; c is the cursor past the type
 unfoldable pub valueStep : Source → Earlier → ℕ → Cursor → TokenType → Step
 valueStep s e p c type.String = stringStep (textIn s p 1)
 valueStep s e p c type.Char = charStep (byteIn s p 2)

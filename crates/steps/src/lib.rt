@@ -4,7 +4,7 @@ ghost use mathlib.Core.Path.{_≡_};
 ghost use Prim.Native.Nat.{_≤_, _<_, _+_, _^_};
 ghost use Rattle.block.specs.Open.{Open};
 ghost use Rattle.steps.specs.Source.{source, earlier};
-ghost use Rattle.steps.specs.Steps.{carries, barred, valueStep, typedStep, stepAt};
+ghost use Rattle.steps.specs.Steps.{carries, barred, valueStep, typedStep};
 ghost use Rattle.steps.specs.Sound.{Rows, reach};
 use block::Block;
 use block::stream;
@@ -124,24 +124,4 @@ pub fn typed_step(
         }
         NextByte::Short => Step::Refused(2),
     }
-}
-
-// What stands at a position.
-pub fn step_at(
-    bytes: &[u8],
-    dir: &[u32],
-    cursors: &[u32],
-    text: &[u8],
-    rows: &[u32],
-    first: u32,
-    count: u32,
-    p: Position,
-) -> Step
-    requires { ⌜ Open (now bytes) (now dir) (now cursors) ⌝ }
-    requires { ⌜ Rows (reach (now text)) (earlier (now text) (now rows) first count) ⌝ }
-    requires { ⌜ (first + count < 2 ^ 32) × ((1 ≤ p .0) × (p .0 ≤ 128)) ⌝ }
-    ensures { λ r. ⌜ r ≡ stepAt (source (now (bytes .entry)) (now (dir .entry)) (now (cursors .entry))) (earlier (now (text .entry)) (now (rows .entry)) first count) (p .0) ⌝ }
-{
-    let found = source::byte_in(bytes, dir, cursors, p, stream::TYPE);
-    typed_step(bytes, dir, cursors, text, rows, first, count, p, found)
 }

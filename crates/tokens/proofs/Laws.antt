@@ -1,4 +1,4 @@
--- What is known of a resolved token: how many bytes it prints, its row, and which memory its bytes depend on.
+-- What is known of a type's number, and of a resolved token: how many bytes it prints, its row, and which memory its bytes depend on.
 use Prim.Native.Nat.{ℕ, _≤_}
 use mathlib.Core.Path.{_≡_, refl}
 use mathlib.Core.Bool.{Bool, true, false}
@@ -12,45 +12,25 @@ use Rattle.base.proofs.Memory.{length-part}
 use Rattle.digits.proofs.Laws.{length-padded}
 use Rattle.tokens.specs.declared.Token.{Token}
 use Rattle.tokens.specs.declared.Token.the-variants.{String, Char, Digits, Digits0}
+use Rattle.tokens.specs.declared.TokenType.{TokenType}
 use Rattle.tokens.specs.declared.TokenType.the-variants as type
-use Rattle.tokens.specs.Types.{typeOf}
+use Rattle.tokens.specs.Types.{typeOf, typeNumber}
 use Rattle.tokens.specs.Tokens.{bytesOf, kindOf, lengthOf, rowOf}
 use Rattle.tokens.specs.Inside.{Inside, KeptBelow}
 use Rattle.base.proofs.Below.{same-part}
 
--- the numbers of the table
-
-pub type-string : typeOf 1 ≡ type.String
-unfolding typeOf pick
-type-string = refl
-
-pub type-char : typeOf 2 ≡ type.Char
-unfolding typeOf pick
-type-char = refl
-
-pub type-digits0 : typeOf 4 ≡ type.Digits0
-unfolding typeOf pick
-type-digits0 = refl
-
-pub type-digits : typeOf 7 ≡ type.Digits
-unfolding typeOf pick
-type-digits = refl
-
-pub type-delta : typeOf 11 ≡ type.Delta
-unfolding typeOf pick
-type-delta = refl
-
-pub type-delta0 : typeOf 12 ≡ type.Delta0
-unfolding typeOf pick
-type-delta0 = refl
-
-pub type-match : typeOf 13 ≡ type.Match
-unfolding typeOf pick
-type-match = refl
-
-pub type-end : typeOf 14 ≡ type.End
-unfolding typeOf pick
-type-end = refl
+-- a type's number is read as the type
+pub type-back : (t : TokenType) → typeOf (typeNumber t) ≡ t
+unfolding typeOf typeNumber pick
+type-back type.String = refl
+type-back type.Char = refl
+type-back type.Digits = refl
+type-back type.Digits0 = refl
+type-back type.Delta = refl
+type-back type.Delta0 = refl
+type-back type.Match = refl
+type-back type.End = refl
+type-back type.Other = refl
 
 -- a resolved token
 
@@ -90,13 +70,6 @@ within : (k : Bool) (bytes text other : List ℕ) (to u : ℕ) → (k ≡ true �
 unfolding pick
 within true bytes text other to u k l h = let m : to ≤ u = k refl in omega arith
 within false bytes text other to u k l h = h
-
--- and it lies inside any kept text that reaches so far
-pub inside-same : (bytes text other : List ℕ) (u : ℕ) (t : Token) → Inside bytes text t → KeptBelow u t → u ≤ length other → Inside bytes other t
-inside-same bytes text other u (String t) i k l = (i .0, within (t .kept) bytes text other (t .end) u k l (i .1))
-inside-same bytes text other u (Char b) i k l = i
-inside-same bytes text other u (Digits n) i k l = i
-inside-same bytes text other u (Digits0 p) i k l = i
 
 pub below-more : (u v : ℕ) (t : Token) → KeptBelow u t → u ≤ v → KeptBelow v t
 below-more u v (String t) k h = λ e. let m : t .end ≤ u = k e in omega arith

@@ -3,12 +3,11 @@
 ghost use mathlib.Core.Path.{_≡_};
 ghost use mathlib.Core.Bool.{true};
 ghost use Prim.Native.Nat.{_≤_, _+_, _*_, _-_};
-ghost use mathlib.Core.List.{[], _∷_};
 ghost use lib.ListN.{length};
 ghost use Rattle.base.specs.Choice.{pick};
 ghost use Rattle.base.specs.Memory.{written, part};
 ghost use Rattle.classes.specs.Classes.{allAllowed};
-ghost use Rattle.tokens.specs.Types.{typeOf};
+ghost use Rattle.tokens.specs.Types.{typeOf, typeNumber};
 ghost use Rattle.tokens.specs.Tokens.{bytesOf, kindOf, numberOf, widthOf, lengthOf, rowOf};
 ghost use Rattle.tokens.specs.Inside.{Inside, KeptBelow};
 
@@ -58,6 +57,23 @@ pub fn type_of(b: u8) -> TokenType
         13 => TokenType::Match,
         14 => TokenType::End,
         _ => TokenType::Other,
+    }
+}
+
+// The byte that says a type.
+pub fn type_number(t: TokenType) -> u8
+    ensures { λ r. ⌜ r ≡ typeNumber t ⌝ }
+{
+    match t {
+        TokenType::String => 1,
+        TokenType::Char => 2,
+        TokenType::Digits => 7,
+        TokenType::Digits0 => 4,
+        TokenType::Delta => 11,
+        TokenType::Delta0 => 12,
+        TokenType::Match => 13,
+        TokenType::End => 14,
+        TokenType::Other => 0,
     }
 }
 

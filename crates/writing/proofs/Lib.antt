@@ -4,4 +4,3 @@ pub mod PutLaws
 pub mod Walks
 pub mod Totals
 pub mod Laid
-pub mod Types

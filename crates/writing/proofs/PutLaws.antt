@@ -1,5 +1,5 @@
 -- What the puts of a token, a choice and a name are, in the forms in which their passes want them.
-use Prim.Native.Nat.{ℕ, zero, suc, _+_, _-_, _*_, _≤_, _<_}
+use Prim.Native.Nat.{ℕ, zero, suc, _+_, _-_, _≤_, _<_}
 use mathlib.Core.Path.{_≡_, ap, _∙_, subst}
 use mathlib.Core.List.{List, [], _∷_, _++_, append-nil}
 use native.Mathlib.Omega.{arith}
@@ -22,46 +22,47 @@ use Rattle.laying.specs.declared.Pass.{Pass}
 use Rattle.laying.specs.Puts.{put}
 use Rattle.laying.specs.Passes.{World, stepOf, runOf, Room, Roomy}
 use Rattle.laying.proofs.Writes.{length-text}
-use Rattle.writing.specs.NamePuts.{typeNumber, choiceType, piecePuts, valuePuts, choicePuts, tokenPuts, headPuts, referencePuts, namePuts, putsFrom}
+use Rattle.tokens.specs.Types.{typeNumber}
+use Rattle.writing.specs.NamePuts.{choiceType, piecePuts, valuePuts, choicePuts, tokenPuts, headPuts, referencePuts, namePuts, putsFrom}
 
 -- A token's value
 
 module _ (pass : Pass) (s : List ℕ) (p : ℕ) (t : Piece) (w : World) (r : Roomy pass (piecePuts s p t) w) where
-  pub string-room : {a e : ℕ} → t ≡ String a e → a ≤ e → e ≤ length s → Room pass (10 * p + 1) (e - a + 1) w
-  unfolding piecePuts Roomy spanOf
+  pub string-room : {a e : ℕ} → t ≡ String a e → a ≤ e → e ≤ length s → Room pass (spanOf p 1) (e - a + 1) w
+  unfolding piecePuts Roomy
   string-room {a} {e} g h k =
       let q = rw g at r in
-      subst (λ (n : ℕ). Room pass (10 * p + 1) n w) (length-text s a e h k) (q .0)
+      subst (λ (n : ℕ). Room pass (spanOf p 1) n w) (length-text s a e h k) (q .0)
 
-  pub char-room : {b : ℕ} → t ≡ Char b → Room pass (10 * p + 2) 1 w
-  unfolding piecePuts Roomy spanOf
+  pub char-room : {b : ℕ} → t ≡ Char b → Room pass (spanOf p 2) 1 w
+  unfolding piecePuts Roomy
   char-room g = let q = rw g at r in q .0
 
-  pub digits-room : {n : ℕ} → t ≡ Digits n → Room pass (10 * p + 7) 4 w
-  unfolding piecePuts Roomy spanOf fourBytes
+  pub digits-room : {n : ℕ} → t ≡ Digits n → Room pass (spanOf p 7) 4 w
+  unfolding piecePuts Roomy fourBytes
   digits-room g = let q = rw g at r in q .0
 
-  pub digits0-room : {x : Padded} → t ≡ Digits0 x → Room pass (10 * p + 3) 4 w × Room pass (10 * p + 4) 1 (stepOf pass (put (10 * p + 3) (fourBytes (x .number))) w)
-  unfolding piecePuts Roomy spanOf fourBytes
+  pub digits0-room : {x : Padded} → t ≡ Digits0 x → Room pass (spanOf p 3) 4 w × Room pass (spanOf p 4) 1 (stepOf pass (put (spanOf p 3) (fourBytes (x .number))) w)
+  unfolding piecePuts Roomy fourBytes
   digits0-room g = let q = rw g at r in (q .0, q .1 .0)
 
 module _ (pass : Pass) (s : List ℕ) (p : ℕ) (t : Piece) (w v : World) where
-  pub string-ran : {a e : ℕ} → t ≡ String a e → v ≡ stepOf pass (put (10 * p + 1) (part s a e ++ 0 ∷ [])) w → v ≡ runOf pass (piecePuts s p t) w
-  unfolding piecePuts runOf spanOf
+  pub string-ran : {a e : ℕ} → t ≡ String a e → v ≡ stepOf pass (put (spanOf p 1) (part s a e ++ 0 ∷ [])) w → v ≡ runOf pass (piecePuts s p t) w
+  unfolding piecePuts runOf
   string-ran g e = rw g e
 
-  pub char-ran : {b : ℕ} → t ≡ Char b → v ≡ stepOf pass (put (10 * p + 2) (b ∷ [])) w → v ≡ runOf pass (piecePuts s p t) w
-  unfolding piecePuts runOf spanOf
+  pub char-ran : {b : ℕ} → t ≡ Char b → v ≡ stepOf pass (put (spanOf p 2) (b ∷ [])) w → v ≡ runOf pass (piecePuts s p t) w
+  unfolding piecePuts runOf
   char-ran g e = rw g e
 
-  pub digits-ran : {n : ℕ} → t ≡ Digits n → v ≡ stepOf pass (put (10 * p + 7) (fourBytes n)) w → v ≡ runOf pass (piecePuts s p t) w
-  unfolding piecePuts runOf spanOf
+  pub digits-ran : {n : ℕ} → t ≡ Digits n → v ≡ stepOf pass (put (spanOf p 7) (fourBytes n)) w → v ≡ runOf pass (piecePuts s p t) w
+  unfolding piecePuts runOf
   digits-ran g e = rw g e
 
-  pub digits0-ran : {x : Padded} {u : World} → t ≡ Digits0 x → u ≡ stepOf pass (put (10 * p + 3) (fourBytes (x .number))) w → v ≡ stepOf pass (put (10 * p + 4) (x .width ∷ [])) u
+  pub digits0-ran : {x : Padded} {u : World} → t ≡ Digits0 x → u ≡ stepOf pass (put (spanOf p 3) (fourBytes (x .number))) w → v ≡ stepOf pass (put (spanOf p 4) (x .width ∷ [])) u
       → v ≡ runOf pass (piecePuts s p t) w
-  unfolding piecePuts runOf spanOf
-  digits0-ran {x} {u} g d e = rw g (e ∙ ap (stepOf pass (put (10 * p + 4) (x .width ∷ []))) d)
+  unfolding piecePuts runOf
+  digits0-ran {x} {u} g d e = rw g (e ∙ ap (stepOf pass (put (spanOf p 4) (x .width ∷ []))) d)
 
 -- A choice's value
 
@@ -70,12 +71,12 @@ module _ (pass : Pass) (s : List ℕ) (p : ℕ) (c : Choice) (w : World) (r : Ro
   unfolding valuePuts
   itself-room g = rw g at r
 
-  pub delta-room : {d : ℕ} → c ≡ Delta d → Room pass (10 * p + 8) 1 w
-  unfolding valuePuts Roomy spanOf
+  pub delta-room : {d : ℕ} → c ≡ Delta d → Room pass (spanOf p 8) 1 w
+  unfolding valuePuts Roomy
   delta-room g = let q = rw g at r in q .0
 
-  pub delta0-room : {d : ℕ} → c ≡ Delta0 d → Room pass (10 * p + 9) 1 w
-  unfolding valuePuts Roomy spanOf
+  pub delta0-room : {d : ℕ} → c ≡ Delta0 d → Room pass (spanOf p 9) 1 w
+  unfolding valuePuts Roomy
   delta0-room g = let q = rw g at r in q .0
 
 module _ (pass : Pass) (s : List ℕ) (p : ℕ) (c : Choice) (w v : World) where
@@ -83,12 +84,12 @@ module _ (pass : Pass) (s : List ℕ) (p : ℕ) (c : Choice) (w v : World) where
   unfolding valuePuts
   itself-ran g e = rw g e
 
-  pub delta-ran : {d : ℕ} → c ≡ Delta d → v ≡ stepOf pass (put (10 * p + 8) (d ∷ [])) w → v ≡ runOf pass (valuePuts s p c) w
-  unfolding valuePuts runOf spanOf
+  pub delta-ran : {d : ℕ} → c ≡ Delta d → v ≡ stepOf pass (put (spanOf p 8) (d ∷ [])) w → v ≡ runOf pass (valuePuts s p c) w
+  unfolding valuePuts runOf
   delta-ran g e = rw g e
 
-  pub delta0-ran : {d : ℕ} → c ≡ Delta0 d → v ≡ stepOf pass (put (10 * p + 9) (d ∷ [])) w → v ≡ runOf pass (valuePuts s p c) w
-  unfolding valuePuts runOf spanOf
+  pub delta0-ran : {d : ℕ} → c ≡ Delta0 d → v ≡ stepOf pass (put (spanOf p 9) (d ∷ [])) w → v ≡ runOf pass (valuePuts s p c) w
+  unfolding valuePuts runOf
   delta0-ran g e = rw g e
 
 pub match-ran : (pass : Pass) (s : List ℕ) (p : ℕ) (c : Choice) (w : World) → c ≡ Match → w ≡ runOf pass (valuePuts s p c) w
@@ -102,18 +103,14 @@ end-ran pass s p c w g = rw g
 -- Type and value
 
 pub choice-room : (pass : Pass) (s : List ℕ) (p : ℕ) (c : Choice) (w : World) → Roomy pass (choicePuts s p c) w
-    → Room pass (10 * p) 1 w × Roomy pass (valuePuts s p c) (stepOf pass (put (10 * p) (typeNumber (choiceType c) ∷ [])) w)
-unfolding choicePuts Roomy spanOf
-choice-room pass s p c w r = subst
-    (λ (k : ℕ). Room pass k 1 w × Roomy pass (valuePuts s p c) (stepOf pass (put k (typeNumber (choiceType c) ∷ [])) w))
-    (let e : 10 * p + 0 ≡ 10 * p = omega arith in e) r
+    → Room pass (spanOf p 0) 1 w × Roomy pass (valuePuts s p c) (stepOf pass (put (spanOf p 0) (typeNumber (choiceType c) ∷ [])) w)
+unfolding choicePuts Roomy
+choice-room pass s p c w r = r
 
-pub choice-ran : (pass : Pass) (s : List ℕ) (p : ℕ) (c : Choice) (w u v : World) → u ≡ stepOf pass (put (10 * p) (typeNumber (choiceType c) ∷ [])) w
+pub choice-ran : (pass : Pass) (s : List ℕ) (p : ℕ) (c : Choice) (w u v : World) → u ≡ stepOf pass (put (spanOf p 0) (typeNumber (choiceType c) ∷ [])) w
     → v ≡ runOf pass (valuePuts s p c) u → v ≡ runOf pass (choicePuts s p c) w
-unfolding choicePuts runOf spanOf
-choice-ran pass s p c w u v d e =
-    let z : 10 * p ≡ 10 * p + 0 = omega arith in
-    e ∙ ap (runOf pass (valuePuts s p c)) (d ∙ ap (λ (k : ℕ). stepOf pass (put k (typeNumber (choiceType c) ∷ [])) w) z)
+unfolding choicePuts runOf
+choice-ran pass s p c w u v d e = e ∙ ap (runOf pass (valuePuts s p c)) d
 
 -- The tokens of a name
 
@@ -133,15 +130,14 @@ tokens-end r s (suc f) p a b h = ap (tokenPuts s p) (pick-false _ _ (le-ltb _ _ 
 
 -- DUP or DIFF
 
-pub head-room : (pass : Pass) (k d : ℕ) (w : World) → Roomy pass (headPuts k d) w → Room pass 0 1 w × Room pass k 4 (stepOf pass (put 0 (k ∷ [])) w)
-unfolding headPuts Roomy spanOf fourBytes
-head-room pass k d w r = (r .0, subst (λ (i : ℕ). Room pass i 4 (stepOf pass (put 0 (k ∷ [])) w)) (let e : 10 * 0 + k ≡ k = omega arith in e) (r .1 .0))
+pub head-room : (pass : Pass) (k d : ℕ) (w : World) → Roomy pass (headPuts k d) w → Room pass (spanOf 0 0) 1 w × Room pass (spanOf 0 k) 4 (stepOf pass (put (spanOf 0 0) (k ∷ [])) w)
+unfolding headPuts Roomy fourBytes
+head-room pass k d w r = (r .0, r .1 .0)
 
-pub head-ran : (pass : Pass) (k d : ℕ) (w u v : World) → u ≡ stepOf pass (put 0 (k ∷ [])) w → v ≡ stepOf pass (put k (fourBytes d)) u → v ≡ runOf pass (headPuts k d) w
-unfolding headPuts runOf spanOf
-head-ran pass k d w u v e f =
-    let z : k ≡ 10 * 0 + k = omega arith in
-    f ∙ ap (λ (i : ℕ). stepOf pass (put i (fourBytes d)) u) z ∙ ap (stepOf pass (put (10 * 0 + k) (fourBytes d))) e
+pub head-ran : (pass : Pass) (k d : ℕ) (w u v : World) → u ≡ stepOf pass (put (spanOf 0 0) (k ∷ [])) w → v ≡ stepOf pass (put (spanOf 0 k) (fourBytes d)) u
+    → v ≡ runOf pass (headPuts k d) w
+unfolding headPuts runOf
+head-ran pass k d w u v e f = f ∙ ap (stepOf pass (put (spanOf 0 k) (fourBytes d))) e
 
 pub dup-puts : (n : ℕ) (before s : List ℕ) (d : Distance) → referenceOf n before s ≡ Dup d → namePuts n before s ≡ headPuts 5 (d .0)
 unfolding namePuts referencePuts

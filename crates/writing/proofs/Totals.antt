@@ -11,7 +11,7 @@ use lib.ListN.{length, length-append}
 use Rattle.base.proofs.Choice.{pick-true, pick-false, by-test}
 use Rattle.base.proofs.Numbers.{lt-or-ge}
 use Rattle.spans.specs.Spans.{fourBytes}
-use Rattle.block.specs.Block.{spanOf}
+use Rattle.block.proofs.Laws.{span-below}
 use Rattle.splitting.specs.declared.Piece.{Piece}
 use Rattle.splitting.specs.declared.Piece.the-variants.{String, Char, Digits, Digits0}
 use Rattle.splitting.specs.declared.Choice.{Choice}
@@ -32,10 +32,6 @@ use Rattle.writing.proofs.NameLaws.{good-length}
 use Rattle.writing.proofs.PutLaws.{tokens-end}
 
 -- Spans
-
-span-below : (p i : ℕ) → p ≤ 128 → i ≤ 9 → spanOf p i < 1290
-unfolding spanOf
-span-below p i h k = omega arith
 
 piece-inside : (s : List ℕ) (p : ℕ) (t : Piece) → p ≤ 128 → Inside (piecePuts s p t)
 unfolding piecePuts

@@ -5,6 +5,7 @@ use Rattle.base.specs.Memory.{part}
 use Rattle.spans.specs.Spans.{fourBytes}
 use Rattle.block.specs.Block.{spanOf}
 use Rattle.tokens.specs.declared.TokenType.{TokenType}
+use Rattle.tokens.specs.Types.{typeNumber}
 use Rattle.splitting.specs.declared.Piece.{Piece}
 use Rattle.splitting.specs.declared.Piece.the-variants.{String, Char, Digits, Digits0}
 use Rattle.splitting.specs.declared.Choice.{Choice}
@@ -14,18 +15,6 @@ use Rattle.splitting.specs.declared.Reference.the-variants.{Dup, Diff}
 use Rattle.splitting.specs.Choices.{choicesOf, referenceOf, leansOn}
 use Rattle.laying.specs.Puts.{Put, put}
 use Rattle.tokens.specs.declared.TokenType.the-variants as type
-
--- the numbers of the types in the stream: the table's, the other way round
-unfoldable pub typeNumber : TokenType → ℕ
-typeNumber type.String = 1
-typeNumber type.Char = 2
-typeNumber type.Digits = 7
-typeNumber type.Digits0 = 4
-typeNumber type.Delta = 11
-typeNumber type.Delta0 = 12
-typeNumber type.Match = 13
-typeNumber type.End = 14
-typeNumber type.Other = 0
 
 unfoldable pub pieceType : Piece → TokenType
 pieceType (String a e) = type.String

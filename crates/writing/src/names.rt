@@ -2,7 +2,7 @@
 ghost use mathlib.Core.Path.{_≡_};
 ghost use mathlib.Core.Bool.{true};
 ghost use Prim.Native.Nat.{_≤_, _<_, _+_, _-_};
-ghost use lib.ListN.{length, getD};
+ghost use lib.ListN.{length};
 ghost use Rattle.base.specs.Memory.{part};
 ghost use Rattle.classes.specs.Classes.{classTable};
 ghost use Rattle.writing.specs.Names.{NameAt, namesOf, ended, goodName, judgedFrom};

@@ -2,36 +2,21 @@
 ghost use mathlib.Core.Path.{_≡_};
 ghost use mathlib.Core.Bool.{true};
 ghost use mathlib.Core.List.{_++_};
-ghost use Prim.Native.Nat.{_≤_, _<_, _+_, _-_};
+ghost use Prim.Native.Nat.{_≤_, _<_, _+_};
 ghost use lib.ListN.{length};
 ghost use Rattle.classes.specs.Classes.{classTable};
 ghost use Rattle.splitting.specs.Choices.{Within, ChoiceWithin, choicesOf};
 ghost use Rattle.laying.specs.Passes.{world, runOf, Roomy};
 ghost use Rattle.writing.specs.Names.{namesOf, ended};
-ghost use Rattle.writing.specs.NamePuts.{typeNumber, pieceType, choiceType, piecePuts, valuePuts, choicePuts, tokenPuts, headPuts, namePuts, putsOf};
+ghost use Rattle.writing.specs.NamePuts.{pieceType, choiceType, piecePuts, valuePuts, choicePuts, tokenPuts, headPuts, namePuts, putsOf};
+use block::stream;
 use laying::Pass;
 use spans::Distance;
+use spans::Position;
 use splitting::Choice;
 use splitting::Piece;
 use splitting::Reference;
 use tokens::TokenType;
-
-// The type's number in the stream.
-fn type_number(t: TokenType) -> u8
-    ensures { λ r. ⌜ r ≡ typeNumber t ⌝ }
-{
-    match t {
-        TokenType::String => 1,
-        TokenType::Char => 2,
-        TokenType::Digits => 7,
-        TokenType::Digits0 => 4,
-        TokenType::Delta => 11,
-        TokenType::Delta0 => 12,
-        TokenType::Match => 13,
-        TokenType::End => 14,
-        TokenType::Other => 0,
-    }
-}
 
 fn piece_type(t: Piece) -> TokenType
     ensures { λ r. ⌜ r ≡ pieceType t ⌝ }
@@ -62,30 +47,31 @@ fn put_piece(
     directory: &mut [u32],
     bytes: &mut [u8],
     name: &[u8],
-    p: u32,
+    p: Position,
     t: Piece,
 ) -> u32
-    requires { ⌜ (p ≤ 128) × Within (now name) t ⌝ }
-    requires { ⌜ Roomy pass (piecePuts (now name) p t) (world total (now directory) (now bytes)) ⌝ }
-    ensures { λ r. ⌜ world r (now (directory .exit)) (now (bytes .exit)) ≡ runOf pass (piecePuts (now (name .entry)) p t) (world total (now (directory .entry)) (now (bytes .entry))) ⌝ }
+    requires { ⌜ (p .0 ≤ 128) × Within (now name) t ⌝ }
+    requires { ⌜ Roomy pass (piecePuts (now name) (p .0) t) (world total (now directory) (now bytes)) ⌝ }
+    ensures { λ r. ⌜ world r (now (directory .exit)) (now (bytes .exit)) ≡ runOf pass (piecePuts (now (name .entry)) (p .0) t) (world total (now (directory .entry)) (now (bytes .entry))) ⌝ }
 {
-    let first = 10 * (p as usize);
     match t {
-        Piece::String { start, end } => laying::put_text(
-            pass,
-            total,
-            directory,
-            bytes,
-            first + 1,
-            name,
-            start,
-            end,
-        ),
-        Piece::Char(b) => laying::put_byte(pass, total, directory, bytes, first + 2, b),
-        Piece::Digits(n) => laying::put_four(pass, total, directory, bytes, first + 7, n),
+        Piece::String { start, end } => {
+            let span = block::span_of(p, stream::STRING);
+            laying::put_text(pass, total, directory, bytes, span, name, start, end)
+        }
+        Piece::Char(b) => {
+            let span = block::span_of(p, stream::CHAR);
+            laying::put_byte(pass, total, directory, bytes, span, b)
+        }
+        Piece::Digits(n) => {
+            let span = block::span_of(p, stream::DIGITS);
+            laying::put_four(pass, total, directory, bytes, span, n)
+        }
         Piece::Digits0(x) => {
-            let next = laying::put_four(pass, total, directory, bytes, first + 3, x.number);
-            laying::put_byte(pass, next, directory, bytes, first + 4, x.width as u8)
+            let numbers = block::span_of(p, stream::DIGITS0);
+            let next = laying::put_four(pass, total, directory, bytes, numbers, x.number);
+            let widths = block::span_of(p, stream::DZLEN);
+            laying::put_byte(pass, next, directory, bytes, widths, x.width as u8)
         }
     }
 }
@@ -96,18 +82,23 @@ fn put_value(
     directory: &mut [u32],
     bytes: &mut [u8],
     name: &[u8],
-    p: u32,
+    p: Position,
     c: Choice,
 ) -> u32
-    requires { ⌜ (p ≤ 128) × ChoiceWithin (now name) c ⌝ }
-    requires { ⌜ Roomy pass (valuePuts (now name) p c) (world total (now directory) (now bytes)) ⌝ }
-    ensures { λ r. ⌜ world r (now (directory .exit)) (now (bytes .exit)) ≡ runOf pass (valuePuts (now (name .entry)) p c) (world total (now (directory .entry)) (now (bytes .entry))) ⌝ }
+    requires { ⌜ (p .0 ≤ 128) × ChoiceWithin (now name) c ⌝ }
+    requires { ⌜ Roomy pass (valuePuts (now name) (p .0) c) (world total (now directory) (now bytes)) ⌝ }
+    ensures { λ r. ⌜ world r (now (directory .exit)) (now (bytes .exit)) ≡ runOf pass (valuePuts (now (name .entry)) (p .0) c) (world total (now (directory .entry)) (now (bytes .entry))) ⌝ }
 {
-    let first = 10 * (p as usize);
     match c {
         Choice::Itself(t) => put_piece(pass, total, directory, bytes, name, p, t),
-        Choice::Delta(d) => laying::put_byte(pass, total, directory, bytes, first + 8, d),
-        Choice::Delta0(d) => laying::put_byte(pass, total, directory, bytes, first + 9, d),
+        Choice::Delta(d) => {
+            let span = block::span_of(p, stream::DDELTA);
+            laying::put_byte(pass, total, directory, bytes, span, d)
+        }
+        Choice::Delta0(d) => {
+            let span = block::span_of(p, stream::DDELTA0);
+            laying::put_byte(pass, total, directory, bytes, span, d)
+        }
         Choice::Match => total,
         Choice::End => total,
     }
@@ -120,15 +111,16 @@ fn put_choice(
     directory: &mut [u32],
     bytes: &mut [u8],
     name: &[u8],
-    p: u32,
+    p: Position,
     c: Choice,
 ) -> u32
-    requires { ⌜ (p ≤ 128) × ChoiceWithin (now name) c ⌝ }
-    requires { ⌜ Roomy pass (choicePuts (now name) p c) (world total (now directory) (now bytes)) ⌝ }
-    ensures { λ r. ⌜ world r (now (directory .exit)) (now (bytes .exit)) ≡ runOf pass (choicePuts (now (name .entry)) p c) (world total (now (directory .entry)) (now (bytes .entry))) ⌝ }
+    requires { ⌜ (p .0 ≤ 128) × ChoiceWithin (now name) c ⌝ }
+    requires { ⌜ Roomy pass (choicePuts (now name) (p .0) c) (world total (now directory) (now bytes)) ⌝ }
+    ensures { λ r. ⌜ world r (now (directory .exit)) (now (bytes .exit)) ≡ runOf pass (choicePuts (now (name .entry)) (p .0) c) (world total (now (directory .entry)) (now (bytes .entry))) ⌝ }
 {
-    let b = type_number(choice_type(c));
-    let next = laying::put_byte(pass, total, directory, bytes, 10 * (p as usize), b);
+    let b = tokens::type_number(choice_type(c));
+    let span = block::span_of(p, stream::TYPE);
+    let next = laying::put_byte(pass, total, directory, bytes, span, b);
     put_value(pass, next, directory, bytes, name, p, c)
 }
 
@@ -151,19 +143,21 @@ fn put_tokens(
     let mut a: usize = 0;
     let mut b: usize = 0;
     while a < name.len() {
-        let e = splitting::cut_at(table, name, p, a);
-        let f = splitting::cut_at(table, before, p, b);
-        let c = splitting::choice_at(table, before, name, p, a, e, b, f);
-        sum = put_choice(pass, sum, directory, bytes, name, p, c);
+        let here = Position(p);
+        let e = splitting::cut_at(table, name, here, a);
+        let f = splitting::cut_at(table, before, here, b);
+        let c = splitting::choice_at(table, before, name, here, a, e, b, f);
+        sum = put_choice(pass, sum, directory, bytes, name, here, c);
         a = e.end;
         b = f.end;
         p += 1;
     }
-    let b = type_number(TokenType::End);
-    laying::put_byte(pass, sum, directory, bytes, 10 * (p as usize), b)
+    let b = tokens::type_number(TokenType::End);
+    let span = block::span_of(Position(p), stream::TYPE);
+    laying::put_byte(pass, sum, directory, bytes, span, b)
 }
 
-// DUP or DIFF and its distance.
+// DUP or DIFF and its distance; the type's number is that of the stream too.
 fn put_head(
     pass: Pass,
     total: u32,
@@ -176,8 +170,10 @@ fn put_head(
     requires { ⌜ Roomy pass (headPuts number (distance .0)) (world total (now directory) (now bytes)) ⌝ }
     ensures { λ r. ⌜ world r (now (directory .exit)) (now (bytes .exit)) ≡ runOf pass (headPuts number (distance .0)) (world total (now (directory .entry)) (now (bytes .entry))) ⌝ }
 {
-    let next = laying::put_byte(pass, total, directory, bytes, 0, number);
-    laying::put_four(pass, next, directory, bytes, number as usize, distance.0)
+    let types = block::span_of(Position(0), stream::TYPE);
+    let next = laying::put_byte(pass, total, directory, bytes, types, number);
+    let distances = block::span_of(Position(0), number as u32);
+    laying::put_four(pass, next, directory, bytes, distances, distance.0)
 }
 
 fn put_diff(

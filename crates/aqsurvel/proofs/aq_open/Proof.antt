@@ -1,4 +1,3 @@
-use mathlib.Core.Path.{sym, ap, _∙_}
 use Rattle.aqsurvel.specs.Answers.{openedNumber}
 use Rattle.aqsurvel.specs.Calls.{openedState}
 use Rattle.aqsurvel.proofs.Laws.{opened-call}
@@ -32,7 +31,7 @@ unfolding openedNumber openedState
 returns c =
     let o = c .before .before .before .before .before .before .before in
     let g = c .before .before .before .s .given .1 in
-    opened-call _ _ _ _ _ (o .«open» .result) _ (o .«open» .ensures) (c .pack .ensures ∙ sym (ap openedNumber g)) (c .before .state-out .ensures ∙ sym (ap (openedState _) g))
+    opened-call _ _ _ _ _ (o .«open» .result) _ (o .«open» .ensures) (rw (c .pack .ensures, g)) (rw (c .before .state-out .ensures, g))
 
 same-length-2 : tie.Need-same-length-2
 same-length-2 c = search needs
@@ -42,7 +41,7 @@ unfolding openedNumber openedState
 returns-2 c =
     let o = c .before .before .before .before .before .before in
     let g = c .before .before .r .given .1 in
-    opened-call _ _ _ _ _ (o .«open» .result) _ (o .«open» .ensures) (c .refused .ensures ∙ sym (ap openedNumber g)) (sym (ap (openedState _) g))
+    opened-call _ _ _ _ _ (o .«open» .result) _ (o .«open» .ensures) (rw (c .refused .ensures, g)) (rw g)
 
 pub aq-open-spec : {M : Type 1} → statement M
 aq-open-spec =

@@ -1,4 +1,3 @@
-use mathlib.Core.Path.{sym, ap, _∙_}
 use Rattle.aqsurvel.specs.Answers.{verdictNumber}
 use borrow.Author.Needs.{needs}
 use Rattle.aqsurvel.proofs.judged.Statement.{statement}
@@ -24,7 +23,7 @@ refused-requires c κs = search needs
 
 returns : tie.Need-returns
 unfolding verdictNumber
-returns c = c .pack .ensures ∙ sym (ap verdictNumber (c .before .enum-told .given .1))
+returns c = rw (c .pack .ensures, c .before .enum-told .given .1)
 
 returns-2 : tie.Need-returns-2
 unfolding verdictNumber
@@ -32,7 +31,7 @@ returns-2 c = rw (c .pack2 .ensures, c .before .enum-told2 .given .1)
 
 returns-3 : tie.Need-returns-3
 unfolding verdictNumber
-returns-3 c = c .refused .ensures ∙ sym (ap verdictNumber (c .before .before .v .given .1))
+returns-3 c = rw (c .refused .ensures, c .before .before .v .given .1)
 
 pub judged-spec : {M : Type 1} → statement M
 judged-spec =

@@ -1,4 +1,3 @@
-use mathlib.Core.Path.{sym, ap, _∙_}
 use Rattle.aqsurvel.specs.Answers.{refusalNumber}
 use borrow.Author.Needs.{needs}
 use Rattle.aqsurvel.proofs.refused.Statement.{statement}
@@ -18,11 +17,11 @@ pack-requires-2 c κs = search needs
 
 returns : tie.Need-returns
 unfolding refusalNumber
-returns c = c .pack .ensures ∙ sym (ap refusalNumber (c .before .before .r .given .1))
+returns c = rw (c .pack .ensures, c .before .before .r .given .1)
 
 returns-2 : tie.Need-returns-2
 unfolding refusalNumber
-returns-2 c = c .pack2 .ensures ∙ sym (ap refusalNumber (c .before .before .r2 .given .1))
+returns-2 c = rw (c .pack2 .ensures, c .before .before .r2 .given .1)
 
 pub refused-spec : {M : Type 1} → statement M
 refused-spec =

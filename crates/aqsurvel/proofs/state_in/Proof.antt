@@ -1,4 +1,3 @@
-use mathlib.Core.Path.{refl}
 use Rattle.aqsurvel.specs.Answers.{stateIn}
 use borrow.Author.Needs.{needs}
 use Rattle.aqsurvel.proofs.state_in.Statement.{statement}
@@ -18,7 +17,7 @@ element-copy-out-t13 c = search needs
 
 returns : tie.Need-returns
 unfolding stateIn
-returns c = refl
+returns c = cc
 
 pub state-in-spec : {M : Type 1} → statement M
 state-in-spec =

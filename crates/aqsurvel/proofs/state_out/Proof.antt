@@ -1,11 +1,10 @@
-use mathlib.Core.Path.{refl}
 use Rattle.aqsurvel.specs.Answers.{stateOut}
 use Rattle.aqsurvel.proofs.state_out.Statement.{statement}
 use Rattle.aqsurvel.proofs.state_out.Tie as tie
 
 returns : tie.Need-returns
 unfolding stateOut
-returns c = refl
+returns c = cc
 
 pub state-out-spec : {M : Type 1} → statement M
 state-out-spec = tie.close (tie.spec returns)

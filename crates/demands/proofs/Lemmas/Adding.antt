@@ -1,7 +1,7 @@
 -- What keeping a name adds, and that it alters nothing else.
-use Prim.Native.Nat.{ℕ, _*_}
-use mathlib.Core.Path.{_≡_, refl, ap, _∙_}
-use mathlib.Core.List.{List, [], _∷_, _++_}
+use Prim.Native.Nat.{ℕ}
+use mathlib.Core.Path.{_≡_, refl, ap}
+use mathlib.Core.List.{[], _∷_, _++_}
 use native.Mathlib.Omega.{arith}
 use lib.ListN.{length, length-append}
 use Rattle.base.specs.Memory.{written}
@@ -21,7 +21,7 @@ use Rattle.demands.specs.Adds.{Adds, Kind, by-dup, by-diff}
 use Rattle.demands.specs.Refusals.{Ready}
 use Rattle.demands.proofs.Lemmas.Moves.{Moves}
 use Rattle.demands.proofs.Lemmas.Writes.{alike-written}
-use Rattle.demands.proofs.Lemmas.Making.{Made, dup, diff, Sized, sized, Room}
+use Rattle.demands.proofs.Lemmas.Making.{Made, dup, diff, made-fives, Room}
 
 abbrev pub entry : ℕ → ℕ → ℕ → ℕ → ℕ → Entry
 entry a l f r d = record { start = a; length = l; first = f; rows = r; distance = d }
@@ -29,38 +29,35 @@ entry a l f r d = record { start = a; length = l; first = f; rows = r; distance 
 -- rule 2 and what was taken, from how the name was made
 pub refers-made : (s : Source) (m : Kept) (x : Draft) (first rows d : ℕ) → Made s m x first rows d → Refers (m .state .names) d
 refers-made s m x first rows d (dup b n e w) = (λ z. absurd (omega arith), λ a. (omega (arith, n .0), n .1))
-refers-made s m x first rows d (diff e y b r w v) = r
+refers-made s m x first rows d (diff y b r w v) = r
 
 record Moved (s : Source) (m : Kept) (x : Draft) (e : Entry) : Type 0 where
   taken : ℕ → ℕ
   kind : Kind s m (x .text) (x .count) taken e
-  moves : Moves (s .dir) (s .cur) (x .cur) taken
+  moves : Moves (s .cur) (x .cur) taken
 
 moved-made : (s : Source) (m : Kept) (x : Draft) (first rows d : ℕ) → Made s m x first rows d → Moved s m x (entry (m .state .text) (length (x .text)) first rows d)
 unfolding nameText
 moved-made s m x first rows d (dup b n e w) = record { taken = headTakes 5; kind = by-dup _ refl refl; moves = w }
-moved-made s m x first rows d (diff e y b r w v) = record { taken = _; kind = by-diff (x .text) (x .count) _ refl refl; moves = v }
+moved-made s m x first rows d (diff y b r w v) = record { taken = _; kind = by-diff (x .text) (x .count) _ refl refl; moves = v }
 
-open-moved : (bytes dir cur next : List ℕ) (f : ℕ → ℕ) → Moves dir cur next f → Open bytes dir cur → Open bytes dir next
-open-moved bytes dir cur next f w o = record {
-  directory = o .directory;
-  table = w .lengths ∙ o .table;
-  ordered = o .ordered;
-  within = o .within;
-  started = λ j l. omega (arith, w .by j, o .started j l);
-  unpassed = w .within (o .unpassed);
-}
+-- where its text with byte 10 and its entry stand
+module _ (m : Kept) (x : Draft) (first rows d : ℕ) (c : Counted m) where
+  pub text-kept : Holds (kept m x first rows d .kept .text) (m .state .text) (x .text ++ (10 ∷ []))
+  unfolding kept
+  text-kept = holds-written _ _ _ (c .used)
 
-module _ (s : Source) (m : Kept) (x : Draft) (first rows d : ℕ) (r : Ready s m) (o : Made s m x first rows d) (f : Room m x) where
+  pub entry-kept : entryAt (kept m x first rows d .kept .names) (m .state .names) ≡ entry (m .state .text) (length (x .text)) first rows d
+  unfolding kept
+  entry-kept = entry-holds _ _ _ _ _ _ _ (holds-written _ _ _ (c .entries))
+
+module _ (s : Source) (m : Kept) (x : Draft) (first rows d : ℕ) (r : Ready s m) (o : Made s m x first rows d) (f : Room m x) (opened : Open (s .bytes) (s .dir) (x .cur)) where
   pub kept-adds : Adds s m (m .state .names) (kept m x first rows d)
   unfolding kept
   kept-adds =
-      let c : Counted m = r .counts in
-      let z : Sized x = sized s m x first rows d c o in
       let v : Moved s m x (entry (m .state .text) (length (x .text)) first rows d) = moved-made s m x first rows d o in
-      let t : Holds (written (m .text) (m .state .text) (x .text ++ (10 ∷ []))) (m .state .text) (x .text ++ (10 ∷ [])) = holds-written _ _ _ (c .used) in
-      let e : entryAt (written (m .names) (5 * m .state .names) (m .state .text ∷ length (x .text) ∷ first ∷ rows ∷ d ∷ [])) (m .state .names) ≡ entry (m .state .text) (length (x .text)) first rows d =
-      entry-holds _ _ _ _ _ _ _ (holds-written _ _ _ (c .entries)) in
+      let t = text-kept m x first rows d (r .counts) in
+      let e = entry-kept m x first rows d (r .counts) in
       record {
         name = x .text;
         rows = x .count;
@@ -74,8 +71,8 @@ module _ (s : Source) (m : Kept) (x : Draft) (first rows d : ℕ) (r : Ready s m
         starts = ap (λ n. n .start) e;
         long = ap (λ n. n .length) e;
         refers = rw e (refers-made s m x first rows d o);
-        table = alike-written (m .rows) _ (x .rows) _ (omega (arith, z .rows)) (f .rows);
+        table = alike-written (m .rows) _ (x .rows) _ (omega (arith, made-fives s m x first rows d o)) (f .rows);
         kind = rw e (v .kind);
         moves = v .moves .by;
-        opened = open-moved _ _ _ _ _ (v .moves) (r .opened);
+        opened = opened;
       }

@@ -16,10 +16,9 @@ use Rattle.kept.specs.Tables.{keeping}
 use Rattle.steps.specs.Source.{source}
 use Rattle.reading.specs.Reads.{Outcome, nextOf}
 use Rattle.demands.specs.Runs.{Lent, lent, read, left, Fresh, reading, after, run}
-use Rattle.demands.specs.Right.{Right}
 use Rattle.demands.specs.Cases.{Stream, bytesIn, dirFrom, inDirectory, openOver, Told, told, readOver}
 use Rattle.demands.proofs.Lemmas.Ways.{ready-reads}
-use Rattle.demands.proofs.Lemmas.Keeping.{fresh-right, after-right}
+use Rattle.demands.proofs.Lemmas.Keeping.{Sure, fresh-sure, after-sure}
 
 -- each cursor at its start, put together as the directory is
 unfoldable pub curFrom : ℕ → List Stream → List ℕ
@@ -131,21 +130,21 @@ module _ (xs : List Stream) (ok : inDirectory xs ≡ true) where
         begins = refl;
       }
 
--- over tables that are right a read goes on to the name, and so do reads in a row
+-- over tables that are in order a read goes on to the name, and so do reads in a row
 unfoldable pub nexts : List ℕ → List ℕ → ℕ → Lent → Lent
 nexts bytes dir zero l = l
 nexts bytes dir (suc n) l = nexts bytes dir n (left (nextOf (source bytes dir (l .cur)) (l .kept)))
 
 module _ (bytes dir : List ℕ) where
-  read-next : (l : Lent) → Right bytes dir l → read bytes dir l ≡ nextOf (source bytes dir (l .cur)) (l .kept)
+  read-next : (l : Lent) → Sure bytes dir l → read bytes dir l ≡ nextOf (source bytes dir (l .cur)) (l .kept)
   unfolding read
   read-next l r = ready-reads (source bytes dir (l .cur)) (l .kept) (record { opened = r .opened; counts = r .counts })
 
-  run-next : (n : ℕ) (l : Lent) → Right bytes dir l → (run bytes dir l (replicate n reading) ≡ nexts bytes dir n l) × Right bytes dir (run bytes dir l (replicate n reading))
+  run-next : (n : ℕ) (l : Lent) → Sure bytes dir l → (run bytes dir l (replicate n reading) ≡ nexts bytes dir n l) × Sure bytes dir (run bytes dir l (replicate n reading))
   unfolding run after nexts
   run-next zero l r = (refl, r)
   run-next (suc n) l r =
-      let h = run-next n (left (read bytes dir l)) (after-right bytes dir l reading r) in
+      let h = run-next n (left (read bytes dir l)) (after-sure bytes dir l reading r) in
       (h .0 ∙ ap (λ (o : Outcome). nexts bytes dir n (left o)) (read-next l r), h .1)
 
 -- the same, with each cursor put at its start at once
@@ -160,6 +159,6 @@ over n xs h ok =
     let b : List ℕ = bytesIn xs in
     let d : List ℕ = dirFrom 0 xs in
     let l : Lent = openOver (n + 1) xs in
-    let r = run-next b d n l (fresh-right b d (n + 1) l (opens-over xs ok (n + 1) (omega arith))) in
+    let r = run-next b d n l (fresh-sure b d (n + 1) l (opens-over xs ok (n + 1) (omega arith))) in
     let e : l ≡ lent (curFrom 0 xs) (l .kept) = ap (λ (c : List ℕ). lent c (l .kept)) (starts-laid xs ok) in
     ap told (read-next b d (run b d l (replicate n reading)) (r .1) ∙ ap (λ (z : Lent). nextOf (source b d (z .cur)) (z .kept)) (r .0 ∙ ap (nexts b d n) e))

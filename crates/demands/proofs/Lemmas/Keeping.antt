@@ -1,198 +1,189 @@
--- A read that keeps a name leaves all that is kept in order.
+-- What a read leaves in order: the counts and cursors, every kept name with its rows, and so all that demand 3 says of them.
 use Prim.Native.Nat.{ℕ, _+_, _-_, _*_, _≤_, _<_}
-use mathlib.Core.Path.{_≡_, refl, sym, ap, _∙_, subst}
+use mathlib.Core.Path.{_≡_, sym, ap, _∙_, subst}
 use mathlib.Core.Logic.{⊎-elim}
 use mathlib.Core.List.{[], _∷_, _++_, List}
 use native.Mathlib.Omega.{arith}
-use native.Mathlib.Nat.{add-zero, eq-or-lt-of-le}
+use native.Mathlib.Nat.{eq-or-lt-of-le}
 use lib.ListN.{length}
 use Rattle.base.proofs.Numbers.{lt-or-ge}
-use Rattle.base.proofs.Holding.{Holds, holds-written, holds-left, holds-right, holds-first, holds-part}
-use Rattle.kept.proofs.Frame.{entry-holds}
-use Rattle.kept.proofs.Later.{Later}
+use Rattle.base.proofs.Holding.{Holds, holds-left, holds-right, holds-first, holds-part}
+use Rattle.block.specs.declared.State.{State}
+use Rattle.block.specs.Block.{state}
+use Rattle.block.specs.Open.{Open}
+use Rattle.block.proofs.Laws.{Accepted, accepted, accepted-open}
 use Rattle.kept.specs.Tables.{Kept, entryAt, rowAt, keeping}
-use Rattle.kept.specs.Inside.{Counted}
+use Rattle.kept.specs.Inside.{Counted, Earlier}
+use Rattle.kept.proofs.Laws.{fresh-counted, earlier}
+use Rattle.kept.proofs.Frame.{row-written}
+use Rattle.kept.proofs.Later.{Later}
 use Rattle.claims.specs.Claims.{nameText}
 use Rattle.steps.specs.Source.{Source, source}
 use Rattle.names.specs.Names.{Draft}
-use Rattle.reading.specs.Reads.{kept, entryBack, Outcome, readOf}
-use Rattle.demands.specs.Printing.{rowsPrint}
-use Rattle.demands.specs.Right.{RowRight, Home, NameRight, Right}
+use Rattle.names.specs.Runs.{textLength}
+use Rattle.reading.specs.Fits.{AllFit, AllSpelt}
+use Rattle.reading.specs.Reads.{kept, entryBack, rowsOf, Outcome, readOf}
+use Rattle.reading.proofs.Holding as reads
+use Rattle.demands.specs.Right.{Home, Right}
 use Rattle.demands.specs.Runs.{lent, Lent, read, left, Fresh, Call, reading, claiming, after}
-use Rattle.demands.specs.Adds.{Adds}
-use Rattle.demands.specs.Refusals.{Ready}
-use Rattle.demands.proofs.Lemmas.Spelling.{rowsFrom, some-token}
-use Rattle.demands.proofs.Lemmas.Laying.{Laid, laid}
-use Rattle.demands.proofs.Lemmas.Making.{Made, dup, diff, Sized, sized, Room, made, room-each}
-use Rattle.demands.proofs.Lemmas.Later.{later-adds, home-later, row-right-later, rows-print-later, name-right-later}
-use Rattle.demands.proofs.Lemmas.Adding.{entry, kept-adds, refers-made}
-use Rattle.block.specs.declared.State.{State}
-use Rattle.block.specs.Block.{starts, state}
-use Rattle.block.proofs.Laws.{Accepted, accepted}
-use Rattle.demands.proofs.Lemmas.Ways.{Way, refuses, ends, keeps, way, fresh-ready}
+use Rattle.demands.specs.Refusals.{Ready, ReadCase, refuses, ends, keeps}
+use Rattle.demands.proofs.Lemmas.Printing.{row-prints, rowsText, rows-print}
+use Rattle.demands.proofs.Lemmas.Making.{Made, dup, diff, Room, made, room-each}
+use Rattle.demands.proofs.Lemmas.Later.{NameSure, later-adds, home-later, rows-later, name-later}
+use Rattle.demands.proofs.Lemmas.Adding.{entry, text-kept, entry-kept, kept-adds, refers-made}
+use Rattle.demands.proofs.Lemmas.Ways.{read-case, ready-holds}
 
--- the rows of the name that is added: those that are new are in order, and all of them print its text
-record Own (m w : Kept) (x : Draft) (first rows : ℕ) : Type 0 where
-  right : (j : ℕ) → m .state .rows ≤ j → j < m .state .rows + x .count → RowRight (w .state .text) (w .text) (w .rows) j
-  within : (j : ℕ) → m .state .rows ≤ j → j < m .state .rows + x .count
-      → (m .state .text ≤ rowAt (w .rows) j .start) × (rowAt (w .rows) j .start + rowAt (w .rows) j .length ≤ m .state .text + length (x .text))
-  mine : 1 ≤ x .count → (first ≡ m .state .rows) × (rows ≡ x .count)
-  prints : rowsPrint (w .text) (w .rows) first rows ≡ x .text
-  one : 1 ≤ rows
-  few : rows ≤ 127
-  used : first + rows ≤ m .state .rows + x .count
+pub record Sure (bytes dir : List ℕ) (l : Lent) : Type 0 where
+  pub opened : Open bytes dir (l .cur)
+  pub counts : Counted (l .kept)
+  pub fits : AllFit (l .kept)
+  pub spelt : AllSpelt (l .kept)
+  pub homes : (j : ℕ) → j < l .kept .state .rows → Home (l .kept) j
+  pub names : (i : ℕ) → i < l .kept .state .names → NameSure (l .kept) i
 
-module _ (s : Source) (m : Kept) (c : Counted m)
-    (each-row : (j : ℕ) → j < m .state .rows → RowRight (m .state .text) (m .text) (m .rows) j)
-    (each-home : (j : ℕ) → j < m .state .rows → Home m j) (each-name : (i : ℕ) → i < m .state .names → NameRight m i) where
-  own : (w : Kept) (x : Draft) (first rows d : ℕ) → Later m w → w .state .text ≡ m .state .text + length (x .text) + 1
-      → Holds (w .text) (m .state .text) (x .text) → Holds (w .rows) (5 * m .state .rows) (x .rows) → Made s m x first rows d → Own m w x first rows
-  unfolding entryBack nameText
-  own w x first rows d h u t g (dup b n e v) =
-      let i : ℕ = m .state .names - d in
+pub sure-right : (bytes dir : List ℕ) (l : Lent) → Sure bytes dir l → Right bytes dir l
+unfolding rowsOf
+sure-right bytes dir l s =
+    let m : Kept = l .kept in
+    let inside : (i : ℕ) → i < m .state .names → Earlier m i = λ i h. earlier m i (s .fits i h) in
+    record {
+      opened = s .opened;
+      counts = s .counts;
+      rows = λ j h.
+          let k : Home m j = s .homes j h in
+          record {
+            fits = inside (k .name) (k .kept) .each j (k .from) (k .to);
+            prints = row-prints (m .text) (rowAt (m .rows) j) (s .spelt (k .name) (k .kept) .each j (k .from) (k .to));
+          };
+      homes = s .homes;
+      names = λ i h.
+          record {
+            text = inside i h .text;
+            rows = inside i h .rows;
+            closed = s .names i h .closed;
+            ended = s .names i h .ended;
+            prints = rows-print _ _ _ _ (s .spelt i h) (inside i h .rows .some) ∙ sym (s .names i h .spells);
+            refers = s .names i h .refers;
+          };
+    }
+
+-- a name more
+module _ (s : Source) (m : Kept) (r : Ready s m) where
+  row-kept : (x : Draft) (first rows d j : ℕ) → length (x .rows) ≡ 5 * x .count → m .state .rows ≤ j → j < m .state .rows + x .count
+      → rowAt (kept m x first rows d .kept .rows) j ≡ rowAt (x .rows) (j - m .state .rows)
+  unfolding kept
+  row-kept x first rows d j f a l = row-written (m .rows) (m .state .rows) (x .rows) j (j - m .state .rows) (r .counts .rowsUsed) (omega arith) (omega arith)
+
+  -- its rows are its own and lie in its text, or it adds none
+  own-home : (x : Draft) (first rows d : ℕ) → Made s m x first rows d
+      → entryAt (kept m x first rows d .kept .names) (m .state .names) ≡ entry (m .state .text) (length (x .text)) first rows d
+      → (j : ℕ) → m .state .rows ≤ j → j < m .state .rows + x .count → Home (kept m x first rows d .kept) j
+  unfolding kept
+  own-home x first rows d (dup b n e v) q j a l = absurd (omega arith)
+  own-home x first rows d (diff y b n p v) q j a l =
+      let i : ℕ = j - m .state .rows in
+      let k = row-kept x first rows d j (p .fives) a l in
       record {
-        right = λ j a l. absurd (omega arith);
-        within = λ j a l. absurd (omega arith);
-        mine = λ a. absurd (omega arith);
-        prints = rows-print-later m w h each-row _ _ (e .rows .ends) ∙ each-name i (omega arith) .prints;
-        one = e .rows .some;
-        few = e .rows .most;
-        used = omega (arith, e .rows .ends);
-      }
-  own w x first rows d h u t g (diff e y b r p v) =
-      let n : length (p .tokens) ≡ x .count = omega (arith, p .count) in
-      let l : Laid (s .bytes) (e .text) (w .text) (w .rows) (w .state .text) (p .tokens) (m .state .text) (m .state .rows) =
-      laid (s .bytes) (e .text) (w .text) (w .rows) (w .state .text) (p .tokens) (m .state .text) (m .state .rows) (p .fits)
-      (subst (Holds (w .text) (m .state .text)) (p .text) t)
-      (subst (Holds (w .rows) (5 * m .state .rows)) (p .rows ∙ ap (rowsFrom (p .tokens)) (add-zero (m .state .text))) g)
-      (omega (arith, ap length (p .text))) in
-      record {
-        right = λ j a k. l .right j a (omega arith);
-        within = λ j a k. let q = l .within j a (omega arith) in (q .0, omega (arith, q .1, ap length (p .text)));
-        mine = λ a. (refl, refl);
-        prints = ap (rowsPrint (w .text) (w .rows) (m .state .rows)) (sym n) ∙ l .prints ∙ sym (p .text);
-        one = omega (arith, some-token (s .bytes) (e .text) (p .tokens) (omega (arith, p .some, ap length (p .text))));
-        few = omega (arith, p .places);
-        used = omega arith;
+        name = m .state .names;
+        kept = omega arith;
+        from = rw q a;
+        to = rw q l;
+        starts = rw (q, k) (p .from i (omega arith) .0);
+        ends = rw (q, k) (p .each i (omega arith) .ends);
       }
 
-  module _ (x : Draft) (first rows d : ℕ) (r : Ready s m) (more : m .state .names ≡ m .state .count → ⊥) (o : Made s m x first rows d) (f : Room m x) where
+  -- its text is that of its rows
+  own-spells : (x : Draft) (first rows d : ℕ) → Made s m x first rows d → Later m (kept m x first rows d .kept) → ((i : ℕ) → i < m .state .names → NameSure m i)
+      → Holds (kept m x first rows d .kept .text) (m .state .text) (x .text) → 1 ≤ rows
+      → x .text ≡ rowsText (kept m x first rows d .kept .text) (kept m x first rows d .kept .rows) first rows
+  unfolding entryBack nameText textLength
+  own-spells x first rows d (dup b n e v) h names t some =
+      names (m .state .names - d) (omega arith) .spells ∙ sym (rows-later m (kept m x first rows d .kept) h (entryBack m d) e)
+  own-spells x first rows d (diff y b n p v) h names t some =
+      let z : ℕ = m .state .rows + x .count - 1 in
+      let i : m .state .rows - m .state .rows ≡ 0 = omega arith in
+      let j : z - m .state .rows + 1 ≡ x .count = omega arith in
+      let e : m .state .text + (m .state .text + length (x .text) - m .state .text) ≡ m .state .text + length (x .text) = omega arith in
+      rw (
+        row-kept x first rows d (m .state .rows) (p .fives) (omega arith) (omega arith),
+        row-kept x first rows d z (p .fives) (omega arith) (omega arith),
+        p .last (z - m .state .rows) j,
+        p .from (m .state .rows - m .state .rows) (omega arith) .1 i,
+        e,
+      ) (sym (holds-part _ _ (x .text) t))
+
+  module _ (x : Draft) (first rows d : ℕ) (o : Made s m x first rows d) (f : Room m x) (h : reads.Holds (s .bytes) (s .dir) m (kept m x first rows d))
+      (was : Sure (s .bytes) (s .dir) (lent (s .cur) m)) where
     abbrev now : Kept
     now = kept m x first rows d .kept
 
-    adds : Adds s m (m .state .names) (kept m x first rows d)
-    adds = kept-adds s m x first rows d r o f
-
     later : Later m now
-    later = later-adds s m (m .state .names) (kept m x first rows d) adds
-
-    size : Sized x
-    size = sized s m x first rows d c o
+    unfolding kept
+    later = later-adds s m (m .state .names) (kept m x first rows d) (kept-adds s m x first rows d r o f (h .opened))
 
     text-holds : Holds (now .text) (m .state .text) (x .text ++ (10 ∷ []))
-    unfolding kept
-    text-holds = holds-written (m .text) (m .state .text) (x .text ++ (10 ∷ [])) (c .used)
+    text-holds = text-kept m x first rows d (r .counts)
 
     name-holds : Holds (now .text) (m .state .text) (x .text)
     name-holds = holds-left (now .text) (m .state .text) (x .text) (10 ∷ []) text-holds
 
-    owns : Own m now x first rows
-    unfolding kept
-    owns = own now x first rows d later refl name-holds (holds-written (m .rows) (5 * m .state .rows) (x .rows) (c .rowsUsed)) o
-
-    counted : Counted now
-    unfolding kept
-    counted = record {
-      kept = omega (arith, c .kept, more);
-      limit = c .limit;
-      entries = omega (arith, adds .names .lengths, f .names);
-      used = omega (arith, adds .text .lengths, f .text);
-      most = omega (arith, c .most, size .limit);
-      rowsUsed = omega (arith, adds .table .lengths, f .rows);
-      rowsMost = omega (arith, c .rowsMost, size .few);
-    }
-
-    rows-right : (j : ℕ) → j < now .state .rows → RowRight (now .state .text) (now .text) (now .rows) j
-    unfolding kept
-    rows-right j l = ⊎-elim (λ a. row-right-later m now later each-row j a) (λ a. owns .right j a l) (lt-or-ge j (m .state .rows))
-
     entered : entryAt (now .names) (m .state .names) ≡ entry (m .state .text) (length (x .text)) first rows d
-    unfolding kept
-    entered = entry-holds _ _ _ _ _ _ _ (holds-written _ _ _ (c .entries))
+    entered = entry-kept m x first rows d (r .counts)
 
-    own-home : (j : ℕ) → m .state .rows ≤ j → j < m .state .rows + x .count → Home now j
-    unfolding kept
-    own-home j a l =
-        let q = owns .mine (omega arith) in
-        let p = owns .within j a l in
-        record {
-          name = m .state .names;
-          kept = omega arith;
-          from = rw entered (omega arith);
-          to = rw entered (omega arith);
-          starts = rw entered (p .0);
-          ends = rw entered (p .1);
-        }
+    all-fit : AllFit now
+    all-fit = h .fits (was .fits)
 
-    homes : (j : ℕ) → j < now .state .rows → Home now j
-    unfolding kept
-    homes j l = ⊎-elim (λ a. home-later m now later j a (each-home j a)) (λ a. own-home j a l) (lt-or-ge j (m .state .rows))
-
-    name-right : NameRight now (m .state .names)
+    name-sure : NameSure now (m .state .names)
     unfolding kept nameText
-    name-right =
+    name-sure =
+        let some : 1 ≤ rows = rw entered at (earlier now (m .state .names) (all-fit (m .state .names) (omega arith)) .rows .some) in
         record {
-          text = rw entered (record { some = size .some; most = size .limit; ends = omega arith });
-          rows = rw entered (record { some = owns .one; most = owns .few; ends = owns .used });
           closed = rw entered (omega arith);
           ended = rw entered (holds-first _ _ 10 [] (holds-right _ _ (x .text) (10 ∷ []) text-holds));
-          prints = rw entered (owns .prints ∙ sym (holds-part _ _ (x .text) name-holds));
+          spells = rw entered (holds-part _ _ (x .text) name-holds ∙ own-spells x first rows d o later (was .names) name-holds some);
           refers = rw entered (refers-made s m x first rows d o);
         }
 
-    names-right : (i : ℕ) → i < now .state .names → NameRight now i
+    pub keeps-sure : Sure (s .bytes) (s .dir) (lent (x .cur) now)
     unfolding kept
-    names-right i l =
-        ⊎-elim (λ a. subst (NameRight now) (sym a) name-right)
-        (λ a. name-right-later m now later each-row i a (each-name i a))
-        (eq-or-lt-of-le {n = i} {m = m .state .names} (omega arith))
-
-    -- all of it
-    pub keeps-right : Right (s .bytes) (s .dir) (lent (x .cur) now)
-    unfolding kept
-    keeps-right = record {
-      opened = adds .opened;
-      counts = counted;
-      rows = rows-right;
-      homes = homes;
-      names = names-right;
+    keeps-sure = record {
+      opened = h .opened;
+      counts = h .counted;
+      fits = all-fit;
+      spelt = h .spelt (was .fits) (was .spelt);
+      homes = λ j l. ⊎-elim (λ a. home-later m now later j a (was .homes j a)) (λ a. own-home x first rows d o entered j a l) (lt-or-ge j (m .state .rows));
+      names = λ i l.
+          ⊎-elim (λ a. subst (NameSure now) (sym a) name-sure)
+          (λ a. name-later m now later i a (earlier m i (was .fits i a)) (was .names i a))
+          (eq-or-lt-of-le {n = i} {m = m .state .names} (omega arith));
     }
 
 -- nothing is kept yet
-pub fresh-right : (bytes dir : List ℕ) (count : ℕ) (l : Lent) → Fresh bytes dir count l → Right bytes dir l
-fresh-right bytes dir count l f =
+pub fresh-sure : (bytes dir : List ℕ) (count : ℕ) (l : Lent) → Fresh bytes dir count l → Sure bytes dir l
+fresh-sure bytes dir count l f =
     let o : Accepted (length bytes) dir count (f .old) (f .state) (l .cur) = accepted _ _ _ _ (f .opens) in
     let e : l .kept .state ≡ state count 0 0 0 = f .begins ∙ o .state in
-    let r : Ready (source bytes dir (starts dir)) (keeping (state count 0 0 0) (l .kept .text) (l .kept .names) (l .kept .rows)) =
-    fresh-ready bytes dir count (f .old) (l .kept .text) (l .kept .names) (l .kept .rows) (o .judged) (o .few) in
+    let none : (i : ℕ) → i < l .kept .state .names → ⊥ = λ i h. omega (arith, ap (λ (z : State). z .names) e) in
     record {
-      opened = rw (o .cursors) (r .opened);
-      counts = subst (λ (z : State). Counted (keeping z (l .kept .text) (l .kept .names) (l .kept .rows))) (sym e) (r .counts);
-      rows = λ i h. absurd (omega (arith, ap (λ (z : State). z .rows) e));
-      homes = λ i h. absurd (omega (arith, ap (λ (z : State). z .rows) e));
-      names = λ i h. absurd (omega (arith, ap (λ (z : State). z .names) e));
+      opened = accepted-open bytes dir count (f .old) (f .opens);
+      counts = subst (λ (z : State). Counted (keeping z (l .kept .text) (l .kept .names) (l .kept .rows))) (sym e) (fresh-counted count _ _ _ (o .few));
+      fits = λ i h. absurd (none i h);
+      spelt = λ i h. absurd (none i h);
+      homes = λ j h. absurd (omega (arith, ap (λ (z : State). z .rows) e));
+      names = λ i h. absurd (none i h);
     }
 
 -- a read
-read-way : (bytes dir : List ℕ) (l : Lent) → Right bytes dir l → (o : Outcome) → Way (source bytes dir (l .cur)) (l .kept) o → Right bytes dir (left o)
+read-way : (bytes dir : List ℕ) (l : Lent) → Sure bytes dir l → (o : Outcome) → ReadCase (source bytes dir (l .cur)) (l .kept) o → reads.Holds bytes dir (l .kept) o
+    → Sure bytes dir (left o)
 unfolding left kept
-read-way bytes dir l r o (refuses q y) = r
-read-way bytes dir l r o (ends a b c) = r
-read-way bytes dir l r o (keeps x first rows d a b g f) =
-    keeps-right (source bytes dir (l .cur)) (l .kept) (r .counts) (r .rows) (r .homes) (r .names) x first rows d a b
-    (made (source bytes dir (l .cur)) (l .kept) x first rows d a g) (room-each (l .kept) x f)
+read-way bytes dir l r o (refuses q y) h = r
+read-way bytes dir l r o (ends a b c) h = r
+read-way bytes dir l r o (keeps x first rows d a b g f) h =
+    keeps-sure (source bytes dir (l .cur)) (l .kept) a x first rows d (made (source bytes dir (l .cur)) (l .kept) a x first rows d g) (room-each (l .kept) x f) h r
 
-pub after-right : (bytes dir : List ℕ) (l : Lent) (c : Call) → Right bytes dir l → Right bytes dir (after bytes dir l c)
+pub after-sure : (bytes dir : List ℕ) (l : Lent) (c : Call) → Sure bytes dir l → Sure bytes dir (after bytes dir l c)
 unfolding after read
-after-right bytes dir l reading r = read-way bytes dir l r (readOf (source bytes dir (l .cur)) (l .kept)) (way _ _)
-after-right bytes dir l (claiming n b) r = r
+after-sure bytes dir l reading r =
+    read-way bytes dir l r (readOf (source bytes dir (l .cur)) (l .kept)) (read-case _ _) (ready-holds _ _ (record { opened = r .opened; counts = r .counts }))
+after-sure bytes dir l (claiming n b) r = r

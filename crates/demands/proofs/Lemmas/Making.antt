@@ -1,76 +1,57 @@
--- The name that a read keeps: a copy of the earlier name, or spelt by its tokens; its size, and the cursors it moved.
+-- The name that a read keeps: a copy of the earlier name, or made of its own rows; and the cursors it moved.
 use Prim.Native.Nat.{ℕ, _+_, _*_, _≤_}
-use mathlib.Core.Path.{_≡_, refl, ap, _∙_}
+use mathlib.Core.Path.{_≡_, refl}
 use mathlib.Core.Bool.{true}
-use mathlib.Core.List.{List, [], _∷_}
+use mathlib.Core.List.{[]}
 use native.Mathlib.Omega.{arith}
 use borrow.Author.Tests.{leb-true}
 use lib.ListN.{length}
 use Rattle.base.proofs.Choice.{both-true}
 use Rattle.base.specs.Memory.{part}
-use Rattle.base.proofs.Memory.{length-part}
-use Rattle.tokens.specs.declared.Token.{Token}
-use Rattle.tokens.specs.Tokens.{lengthOf, rowOf}
 use Rattle.kept.specs.Tables.{Kept}
-use Rattle.kept.specs.Inside.{Counted, EntryInside}
+use Rattle.kept.specs.Inside.{EntryInside}
+use Rattle.kept.proofs.Laws.{room-holds}
 use Rattle.steps.specs.Source.{Source, Earlier}
 use Rattle.steps.specs.Sound.{Rows}
 use Rattle.steps.proofs.Laws.{rows-none, rows-judged}
-use Rattle.names.specs.Names.{Draft, draft}
-use Rattle.kept.proofs.Laws.{room-holds}
+use Rattle.names.specs.Names.{Draft, draft, named, nameOf}
 use Rattle.reading.specs.Reads.{roomFor, headPast, rowsOf, none, entryBack}
+use Rattle.reading.proofs.Fitting.{Rowed, name-rowed}
 use Rattle.demands.specs.Takes.{takesFrom, headTakes}
 use Rattle.demands.specs.Right.{Refers}
-use Rattle.demands.specs.Refusals.{Back, Ready}
-use Rattle.demands.proofs.Lemmas.Ways.{Origin, copied, begun, leant}
-use Rattle.demands.proofs.Lemmas.Traces.{Trace, trace}
+use Rattle.demands.specs.Refusals.{Back, Ready, Leans, on-none, on-earlier, Origin, copied, walked}
+use Rattle.demands.proofs.Lemmas.Traces.{trace}
 use Rattle.demands.proofs.Lemmas.Moves.{Moves, head-moves, name-moves}
-use Rattle.demands.proofs.Lemmas.Spelling.{Spelled, spelled, rowsFrom}
 
 pub data Made (s : Source) (m : Kept) : Draft → ℕ → ℕ → ℕ → Type 0 where
-  dup : (d : ℕ) → Back (m .state .names) d → EntryInside (m .state) (m .rows) (entryBack m d) → Moves (s .dir) (s .cur) (headPast (s .cur) 5) (headTakes 5)
+  dup : (d : ℕ) → Back (m .state .names) d → EntryInside (m .state) (m .rows) (entryBack m d) → Moves (s .cur) (headPast (s .cur) 5) (headTakes 5)
       → Made s m (draft (part (m .text) (entryBack m d .start) (entryBack m d .start + entryBack m d .length)) [] 0 (headPast (s .cur) 5)) (entryBack m d .first) (entryBack m d .rows) d
-  diff : (e : Earlier) (x : Draft) (d : ℕ) → Refers (m .state .names) d → Spelled s e (m .state .text) 1 (draft [] [] 0 (headPast (s .cur) 6)) x
-      → Moves (s .dir) (s .cur) (x .cur) (λ j. headTakes 6 j + takesFrom s 1 (x .count + 1) j) → Made s m x (m .state .rows) (x .count) d
+  diff : (x : Draft) (d : ℕ) → Refers (m .state .names) d → Rowed (m .state .text) x
+      → Moves (s .cur) (x .cur) (λ j. headTakes 6 j + takesFrom s 1 (x .count + 1) j) → Made s m x (m .state .rows) (x .count) d
 
-pub made : (s : Source) (m : Kept) (x : Draft) (first rows d : ℕ) → Ready s m → Origin s m x first rows d → Made s m x first rows d
-unfolding rowsOf none
-made s m x first rows d r (copied b h k n f) =
-    dup b n f (head-moves s (r .opened .table) h 5 (omega arith) (omega arith) k)
-made s m x first rows d r (begun y h k z q) =
-    let t : Trace s (none m) (m .state .text) 1 (draft [] [] 0 (headPast (s .cur) 6)) x = trace s (none m) (m .state .text) (headPast (s .cur) 6) x q in
-    let l : Rows (m .state .text) (none m) = rows-none (m .state .text) (m .text) (m .rows) (r .counts .used) in
-    diff (none m) x 0 (λ e. refl, λ a. absurd (omega arith)) (spelled s (none m) (m .state .text) (r .opened) l 1 _ x t (omega arith) (omega arith))
-    (name-moves s (r .opened .table) h (none m) (m .state .text) x k t)
-made s m x first rows d r (leant y b h k n f q) =
-    let e : Earlier = rowsOf m (entryBack m d) in
-    let t : Trace s e (m .state .text) 1 (draft [] [] 0 (headPast (s .cur) 6)) x = trace s e (m .state .text) (headPast (s .cur) 6) x q in
-    let l : Rows (m .state .text) e = rows-judged (m .state) (m .text) (m .rows) (entryBack m d) (r .counts .rowsUsed) (r .counts .used) f in
-    diff e x d (λ z. absurd (omega arith), λ a. (omega (arith, n .0), n .1)) (spelled s e (m .state .text) (r .opened) l 1 _ x t (omega arith) (omega arith))
-    (name-moves s (r .opened .table) h e (m .state .text) x k t)
+module _ (s : Source) (m : Kept) (r : Ready s m) where
+  diff-made : (e : Earlier) (x : Draft) (d : ℕ) → Rows (m .state .text) e → Refers (m .state .names) d
+      → nameOf s e (m .state .text) (headPast (s .cur) 6) ≡ named x → Made s m x (m .state .rows) (x .count) d
+  diff-made e x d l n q =
+      diff x d n (name-rowed s e (m .state .text) (r .opened) l (headPast (s .cur) 6) x q)
+      (name-moves s (r .opened .table) e (m .state .text) x (trace s e (m .state .text) (headPast (s .cur) 6) x q))
 
--- its size
-pub record Sized (x : Draft) : Type 0 where
-  pub rows : length (x .rows) ≡ 5 * x .count
-  pub some : 1 ≤ length (x .text)
-  pub limit : length (x .text) ≤ 254
-  pub few : x .count ≤ 127
+  walk-made : (x : Draft) (d : ℕ) (e : Earlier) → Leans s m d e → nameOf s e (m .state .text) (headPast (s .cur) 6) ≡ named x → Made s m x (m .state .rows) (x .count) d
+  unfolding rowsOf none
+  walk-made x d e (on-none h z) q =
+      diff-made (none m) x 0 (rows-none (m .state .text) (m .text) (m .rows) (r .counts .used)) (λ e. refl, λ a. absurd (omega arith)) q
+  walk-made x d e (on-earlier b h n f) q =
+      diff-made (rowsOf m (entryBack m d)) x d (rows-judged (m .state) (m .text) (m .rows) (entryBack m d) (r .counts .rowsUsed) (r .counts .used) f)
+      (λ z. absurd (omega arith), λ a. (omega (arith, n .0), n .1)) q
 
-length-rows : (ts : List Token) (at : ℕ) → length (rowsFrom ts at) ≡ 5 * length ts
-unfolding rowsFrom rowOf
-length-rows [] at = refl
-length-rows (t ∷ ts) at = omega (arith, length-rows ts (at + lengthOf t))
+  pub made : (x : Draft) (first rows d : ℕ) → Origin s m x first rows d → Made s m x first rows d
+  made x first rows d (copied b h n f) = dup b n f (head-moves s (r .opened .table) 5 (omega arith))
+  made x first rows d (walked y b e l q) = walk-made x d e l q
 
-pub sized : (s : Source) (m : Kept) (x : Draft) (first rows d : ℕ) → Counted m → Made s m x first rows d → Sized x
-sized s m x first rows d c (dup b n e w) =
-    let l = length-part (m .text) (entryBack m d .start) (entryBack m d .start + entryBack m d .length) (omega arith) (omega (arith, e .text .ends, c .used)) in
-    record { rows = refl; some = omega (arith, e .text .some); limit = omega (arith, e .text .most); few = omega arith }
-sized s m x first rows d c (diff e y b r w v) = record {
-  rows = ap length (w .rows) ∙ omega (arith, length-rows (w .tokens) (m .state .text + 0), w .count);
-  some = w .some;
-  limit = w .limit;
-  few = omega (arith, w .count, w .places);
-}
+-- its rows have five numbers each
+pub made-fives : (s : Source) (m : Kept) (x : Draft) (first rows d : ℕ) → Made s m x first rows d → length (x .rows) ≡ 5 * x .count
+made-fives s m x first rows d (dup b n e w) = refl
+made-fives s m x first rows d (diff y b r w v) = w .fives
 
 -- room for it
 pub record Room (m : Kept) (x : Draft) : Type 0 where

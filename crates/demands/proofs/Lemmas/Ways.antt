@@ -1,149 +1,147 @@
--- The ways that a read can go, each with the tests that led there: every theorem about a read goes by these cases.
-use Prim.Native.Nat.{ℕ, _+_, _-_, _≤_}
-use mathlib.Core.Path.{_≡_, refl, _∙_}
-use mathlib.Core.Bool.{Bool, true, false}
-use mathlib.Core.List.{List, []}
+-- A read has one of the cases of specs/Refusals: every theorem about a read goes by these.
+use Prim.Native.Nat.{ℕ, _-_, _≤_}
+use mathlib.Core.Path.{_≡_, refl, sym, _∙_, subst}
+use mathlib.Core.Bool.{true}
+use mathlib.Core.List.{List}
 use native.Mathlib.Omega.{arith}
-use borrow.Author.Tests.{leb-true, eqb-true, eqb-false}
+use borrow.Author.Tests.{leb-true, eqb-true, eqb-false, le-leb, eq-eqb, ne-eqb}
 use lib.Dec.{leb, eqb}
 use lib.ListN.{length}
-use Rattle.base.specs.Choice.{pick, both}
-use Rattle.base.specs.Memory.{part}
-use Rattle.base.proofs.Choice.{both-true, pick-true, pick-holds}
-use Rattle.block.specs.declared.Refusal.{Refusal}
+use Rattle.base.specs.Choice.{both}
+use Rattle.base.proofs.Choice.{both-true, both-of, pick-true, pick-false, pick-holds, by-test, never}
+use Rattle.spans.specs.declared.Cursor.{Cursor}
+use Rattle.spans.specs.declared.NextByte.{NextByte}
+use Rattle.spans.specs.declared.NextByte.the-variants as byte
+use Rattle.spans.specs.declared.NextFour.{NextFour}
+use Rattle.spans.specs.declared.NextFour.the-variants as four
 use Rattle.block.specs.Block.{sound, allInside, allAtEnd, starts, state}
-use Rattle.block.proofs.Laws.{judged-open, sound-open, open-sound, open-inside}
+use Rattle.block.proofs.Laws.{judged-open, sound-open}
 use Rattle.kept.specs.Tables.{Kept, keeping}
 use Rattle.kept.specs.Judgement.{counts, earlierFits}
-use Rattle.kept.specs.Inside.{EntryInside}
-use Rattle.kept.proofs.Laws.{counted, counts-of, earlier}
-use Rattle.steps.specs.Source.{Source, source, fourIn}
-use Rattle.names.specs.Names.{Draft, draft, Named, named, refused, nameOf}
+use Rattle.kept.proofs.Laws.{counted, fresh-counted, earlier}
+use Rattle.steps.specs.Source.{Source, Earlier, source, byteIn, fourIn}
+use Rattle.names.specs.Names.{Draft, Named, named, refused, nameOf}
 use Rattle.reading.specs.declared.Head.{Head}
 use Rattle.reading.specs.declared.Head.the-variants as head
-use Rattle.reading.specs.declared.Answer.the-variants as answer
-use Rattle.reading.specs.Reads.{Outcome, outcome, plain, atName, dupHead, diffHead, typedHead, headOf, roomFor, kept, keepOf, headPast, dupOf, namedOf, diffOf, rowsOf, none, entryBack, headedOf, nextOf, readOf}
-use Rattle.demands.specs.Refusals.{Back, ByRule, Ready, by-rule, by-memory, Why, unsound, uncounted, outside, unread, unnamed}
-use Rattle.demands.proofs.Lemmas.Streams.{Has, byte-way, four-way}
-use Rattle.demands.proofs.Lemmas.Traces.{name-refuses}
+use Rattle.reading.specs.Reads.{plain, atName, dupFits, diffFits, dupHead, diffHead, typedHead, headOf, roomFor, keepOf, headPast, dupOf, namedOf, diffOf, entryBack, headedOf, nextOf, readOf}
+use Rattle.reading.proofs.Holding.{Holds, next-holds, read-next}
+use Rattle.demands.specs.Refusals.{Back, Ready, is-dup, is-diff, Heads, Rule2, dup-back, diff-none, diff-back, HeadStop, no-type, no-head, no-distance, off-rule, Leans, on-none, on-earlier, Origin, copied, walked, by-head, by-memory, by-token, by-room, unsound, uncounted, outside, unread, unnamed, ReadCase, refuses, ends, keeps}
 
 -- what position 0 can say of name n
-pub data HeadWay (s : Source) (n : ℕ) : Head → Type 0 where
-  stops : (r : ℕ) → ByRule r → HeadWay s n (head.Refused r)
-  dups : (d : ℕ) → Has s 0 0 1 → Has s 0 5 4 → Back n d → HeadWay s n (head.Dup (record { 0 = d }))
-  begins : Has s 0 0 1 → Has s 0 6 4 → n ≡ 0 → HeadWay s n (head.Diff (record { 0 = 0 }))
-  diffs : (d : ℕ) → Has s 0 0 1 → Has s 0 6 4 → Back n d → HeadWay s n (head.Diff (record { 0 = d }))
+data HeadCase (s : Source) (n : ℕ) : Head → Type 0 where
+  stops : (r : ℕ) → HeadStop s n r → HeadCase s n (head.Refused r)
+  dups : (d : ℕ) → Heads s 5 d → Back n d → HeadCase s n (head.Dup (record { 0 = d }))
+  diffs : (d : ℕ) → Heads s 6 d → Rule2 n 6 d → HeadCase s n (head.Diff (record { 0 = d }))
 
 -- a block that has opened is ready to be read, whatever the buffers held
 pub fresh-ready : (bytes dir : List ℕ) (count : ℕ) (old text names rows : List ℕ) → sound (length bytes) dir old ≡ true → count ≤ 65536
     → Ready (source bytes dir (starts dir)) (keeping (state count 0 0 0) text names rows)
 fresh-ready bytes dir count old text names rows s l = record {
   opened = sound-open bytes dir old s;
-  counts = record {
-    kept = omega arith;
-    limit = l;
-    entries = omega arith;
-    used = omega arith;
-    most = omega arith;
-    rowsUsed = omega arith;
-    rowsMost = omega arith;
-  };
+  counts = fresh-counted count text names rows l;
 }
 
--- how a read that keeps a name comes by it: its text, rows and cursors, its first row, number of rows and distance
-pub data Origin (s : Source) (m : Kept) : Draft → ℕ → ℕ → ℕ → Type 0 where
-  copied : (d : ℕ) → Has s 0 0 1 → Has s 0 5 4 → Back (m .state .names) d → EntryInside (m .state) (m .rows) (entryBack m d)
-      → Origin s m (draft (part (m .text) (entryBack m d .start) (entryBack m d .start + entryBack m d .length)) [] 0 (headPast (s .cur) 5)) (entryBack m d .first) (entryBack m d .rows) d
-  begun : (x : Draft) → Has s 0 0 1 → Has s 0 6 4 → m .state .names ≡ 0
-      → nameOf s (none m) (m .state .text) (headPast (s .cur) 6) ≡ named x → Origin s m x (m .state .rows) (x .count) 0
-  leant : (x : Draft) (d : ℕ) → Has s 0 0 1 → Has s 0 6 4 → Back (m .state .names) d → EntryInside (m .state) (m .rows) (entryBack m d)
-      → nameOf s (rowsOf m (entryBack m d)) (m .state .text) (headPast (s .cur) 6) ≡ named x → Origin s m x (m .state .rows) (x .count) d
+-- rule 2, and its tests
+pub back-of : (n d : ℕ) → both (leb 1 d) (leb d n) ≡ true → Back n d
+back-of n d e = let h = both-true (leb 1 d) (leb d n) e in (leb-true 1 d (h .0), leb-true d n (h .1))
 
--- what a read can come to
-pub data Way (s : Source) (m : Kept) : Outcome → Type 0 where
-  refuses : (r : Refusal) → Why s m r → Way s m (outcome (answer.Refused r) (s .cur) m)
-  ends : Ready s m → m .state .names ≡ m .state .count → allAtEnd (s .dir) (s .cur) ≡ true → Way s m (outcome answer.Done (s .cur) m)
-  keeps : (x : Draft) (first rows d : ℕ) → Ready s m → (m .state .names ≡ m .state .count → ⊥) → Origin s m x first rows d → roomFor m x ≡ true
-      → Way s m (kept m x first rows d)
+pub of-back : (n d : ℕ) → Back n d → both (leb 1 d) (leb d n) ≡ true
+of-back n d b = both-of (le-leb 1 d (b .0)) (le-leb d n (b .1))
 
-back : (n d : ℕ) → both (leb 1 d) (leb d n) ≡ true → Back n d
-back n d e = let h = both-true (leb 1 d) (leb d n) e in (leb-true 1 d (h .0), leb-true d n (h .1))
+rule-dup : (n d : ℕ) → Rule2 n 5 d → Back n d
+rule-dup n d (dup-back x b) = b
 
-dup-way : (s : Source) (n : ℕ) → Has s 0 0 1 → HeadWay s n (dupHead n (fourIn s 0 5))
-unfolding dupHead
-dup-way s n h = four-way (λ v. HeadWay s n (dupHead n v)) s 0 5
-    (λ k d. pick-holds (HeadWay s n) (both (leb 1 d) (leb d n)) _ _ (λ e. dups d h k (back n d e)) (λ e. stops 4 (omega arith)))
-    (stops 2 (omega arith))
+pub rule-diff : (n d : ℕ) → Rule2 n 6 d → diffFits d n ≡ true
+rule-diff n d (diff-none z) = pick-true _ _ (eq-eqb n 0 z)
+rule-diff n d (diff-back x b) = pick-false _ _ (ne-eqb n 0 (λ z. omega (arith, b .0, b .1))) ∙ of-back n d b
 
-diff-test : (s : Source) (n d : ℕ) → Has s 0 0 1 → Has s 0 6 4 → (b : Bool) → eqb n 0 ≡ b
-    → pick b (eqb d 0) (both (leb 1 d) (leb d n)) ≡ true → HeadWay s n (head.Diff (record { 0 = d }))
-unfolding pick
-diff-test s n d h k true z e = rw (eqb-true d 0 e) (begins h k (eqb-true n 0 z))
-diff-test s n d h k false z e = diffs d h k (back n d e)
+pub diff-rule : (n d : ℕ) → diffFits d n ≡ true → Rule2 n 6 d
+diff-rule n d e =
+    by-test (eqb n 0)
+    (λ z. subst (Rule2 n 6) (sym (eqb-true d 0 (sym (pick-true (eqb d 0) (both (leb 1 d) (leb d n)) z) ∙ e))) (diff-none (eqb-true n 0 z)))
+    (λ z. diff-back d (back-of n d (sym (pick-false (eqb d 0) (both (leb 1 d) (leb d n)) z) ∙ e)))
 
-diff-way : (s : Source) (n : ℕ) → Has s 0 0 1 → HeadWay s n (diffHead n (fourIn s 0 6))
-unfolding diffHead
-diff-way s n h = four-way (λ v. HeadWay s n (diffHead n v)) s 0 6
-    (λ k d. pick-holds (HeadWay s n) (pick (eqb n 0) (eqb d 0) (both (leb 1 d) (leb d n))) _ _ (diff-test s n d h k (eqb n 0) refl) (λ e. stops 4 (omega arith)))
-    (stops 2 (omega arith))
+module _ (s : Source) (n : ℕ) where
+  dup-case : (c : Cursor) → byteIn s 0 0 ≡ byte.Value 5 c → (f : NextFour) → fourIn s 0 5 ≡ f → HeadCase s n (dupHead n f)
+  unfolding dupHead
+  dup-case c t (four.Value d k) f =
+      let h : Heads s 5 d = record { past = c; behind = k; type = t; distance = f } in
+      pick-holds (HeadCase s n) (dupFits d n) _ _ (λ e. dups d h (back-of n d e)) (λ e. stops 4 (off-rule 5 d h is-dup (λ r. never (sym e ∙ of-back n d (rule-dup n d r)))))
+  dup-case c t four.Short f = stops 2 (no-distance 5 c t is-dup f)
 
-pub head-way : (s : Source) (n : ℕ) → HeadWay s n (headOf s n)
-unfolding headOf typedHead
-head-way s n = byte-way (λ v. HeadWay s n (typedHead s n v)) s 0 0
-    (λ h t. pick-holds (HeadWay s n) (eqb t 5) _ _ (λ e. dup-way s n h)
-    (λ e. pick-holds (HeadWay s n) (eqb t 6) _ _ (λ e. diff-way s n h) (λ e. stops 3 (omega arith))))
-    (stops 2 (omega arith))
+  diff-case : (c : Cursor) → byteIn s 0 0 ≡ byte.Value 6 c → (f : NextFour) → fourIn s 0 6 ≡ f → HeadCase s n (diffHead n f)
+  unfolding diffHead
+  diff-case c t (four.Value d k) f =
+      let h : Heads s 6 d = record { past = c; behind = k; type = t; distance = f } in
+      pick-holds (HeadCase s n) (diffFits d n) _ _ (λ e. diffs d h (diff-rule n d e)) (λ e. stops 4 (off-rule 6 d h is-diff (λ r. never (sym e ∙ rule-diff n d r))))
+  diff-case c t four.Short f = stops 2 (no-distance 6 c t is-diff f)
+
+  type-case : (b : NextByte) → byteIn s 0 0 ≡ b → HeadCase s n (typedHead s n b)
+  unfolding typedHead
+  type-case (byte.Value t c) f =
+      let at : (v : ℕ) → t ≡ v → byteIn s 0 0 ≡ byte.Value v c = λ v e. subst (λ (w : ℕ). byteIn s 0 0 ≡ byte.Value w c) e f in
+      pick-holds (HeadCase s n) (eqb t 5) _ _ (λ e. dup-case c (at 5 (eqb-true t 5 e)) _ refl)
+      (λ e. pick-holds (HeadCase s n) (eqb t 6) _ _ (λ g. diff-case c (at 6 (eqb-true t 6 g)) _ refl)
+      (λ g. stops 3 (no-head t c f (eqb-false t 5 e) (eqb-false t 6 g))))
+  type-case byte.Short f = stops 2 (no-type f)
+
+  head-case : HeadCase s n (headOf s n)
+  unfolding headOf
+  head-case = type-case (byteIn s 0 0) refl
 
 module _ (s : Source) (m : Kept) (r : Ready s m) (more : m .state .names ≡ m .state .count → ⊥) where
-  keep-way : (x : Draft) (first rows d : ℕ) → Origin s m x first rows d → Way s m (keepOf s m x first rows d)
+  keep-case : (x : Draft) (first rows d : ℕ) → Origin s m x first rows d → ReadCase s m (keepOf s m x first rows d)
   unfolding keepOf atName
-  keep-way x first rows d o = pick-holds (Way s m) (roomFor m x) _ _ (λ e. keeps x first rows d r more o e) (λ e. refuses _ (unnamed 9 r more (by-rule 9 (omega arith))))
+  keep-case x first rows d o =
+      pick-holds (ReadCase s m) (roomFor m x) _ _ (λ e. keeps x first rows d r more o e) (λ e. refuses _ (unnamed 9 r more (by-room x first rows d o e)))
 
-  named-way : (d : ℕ) (a : Named) → ((x : Draft) → a ≡ named x → Origin s m x (m .state .rows) (x .count) d)
-      → ((n : ℕ) → a ≡ refused n → ByRule n) → Way s m (namedOf s m d a)
+  named-case : (d : ℕ) (e : Earlier) → Leans s m d e → (a : Named) → nameOf s e (m .state .text) (headPast (s .cur) 6) ≡ a → ReadCase s m (namedOf s m d a)
   unfolding namedOf atName
-  named-way d (named x) f g = keep-way x _ _ d (f x refl)
-  named-way d (refused n) f g = refuses _ (unnamed n r more (by-rule n (g n refl)))
+  named-case d e l (named x) q = keep-case x _ _ d (walked x d e l q)
+  named-case d e l (refused n) q = refuses _ (unnamed n r more (by-token n d e l q))
 
-  diff-none : Has s 0 0 1 → Has s 0 6 4 → m .state .names ≡ 0 → Way s m (diffOf s m 0 (none m))
+  walk-case : (d : ℕ) (e : Earlier) → Leans s m d e → ReadCase s m (diffOf s m d e)
   unfolding diffOf
-  diff-none h k z = named-way 0 _ (λ x e. begun x h k z e) (λ n e. name-refuses _ _ _ _ n e)
+  walk-case d e l = named-case d e l _ refl
 
-  diff-back : (d : ℕ) → Has s 0 0 1 → Has s 0 6 4 → Back (m .state .names) d → EntryInside (m .state) (m .rows) (entryBack m d)
-      → Way s m (diffOf s m d (rowsOf m (entryBack m d)))
-  unfolding diffOf
-  diff-back d h k b f = named-way d _ (λ x e. leant x d h k b f e) (λ n e. name-refuses _ _ _ _ n e)
+  rule-case : (d : ℕ) → Heads s 6 d → Rule2 (m .state .names) 6 d → ReadCase s m (headedOf s m (head.Diff (record { 0 = d })))
+  unfolding headedOf atName entryBack
+  rule-case d h (diff-none z) = pick-holds (ReadCase s m) (eqb 0 0) _ _ (λ e. walk-case 0 _ (on-none h z)) (λ e. absurd (eqb-false 0 0 e refl))
+  rule-case d h (diff-back x b) =
+      pick-holds (ReadCase s m) (eqb d 0) _ _ (λ e. absurd (let z : d ≡ 0 = eqb-true d 0 e in omega arith))
+      (λ e. pick-holds (ReadCase s m) (earlierFits m (m .state .names - d)) _ _
+      (λ f. walk-case d _ (on-earlier d h b (earlier m _ f))) (λ f. refuses _ (unnamed 13 r more (by-memory 6 d h is-diff b f))))
 
-  headed-way : (a : Head) → HeadWay s (m .state .names) a → Way s m (headedOf s m a)
+  headed-case : (a : Head) → HeadCase s (m .state .names) a → ReadCase s m (headedOf s m a)
   unfolding headedOf atName dupOf entryBack
-  headed-way a (stops n q) = refuses _ (unnamed n r more (by-rule n q))
-  headed-way a (dups d h k b) =
-      pick-holds (Way s m) (earlierFits m (m .state .names - d)) _ _ (λ f. keep-way _ _ _ d (copied d h k b (earlier m _ f))) (λ f. refuses _ (unnamed 13 r more (by-memory d b f)))
-  headed-way a (begins h k z) = pick-holds (Way s m) (eqb 0 0) _ _ (λ e. diff-none h k z) (λ e. absurd (eqb-false 0 0 e refl))
-  headed-way a (diffs d h k b) =
-      pick-holds (Way s m) (eqb d 0) _ _ (λ e. absurd (let z : d ≡ 0 = eqb-true d 0 e in omega arith))
-      (λ e. pick-holds (Way s m) (earlierFits m (m .state .names - d)) _ _ (λ f. diff-back d h k b (earlier m _ f)) (λ f. refuses _ (unnamed 13 r more (by-memory d b f))))
+  headed-case a (stops n q) = refuses _ (unnamed n r more (by-head n q))
+  headed-case a (dups d h b) =
+      pick-holds (ReadCase s m) (earlierFits m (m .state .names - d)) _ _
+      (λ f. keep-case _ _ _ d (copied d h b (earlier m _ f))) (λ f. refuses _ (unnamed 13 r more (by-memory 5 d h is-dup b f)))
+  headed-case a (diffs d h b) = rule-case d h b
 
-next-way : (s : Source) (m : Kept) → Ready s m → Way s m (nextOf s m)
+next-case : (s : Source) (m : Kept) → Ready s m → ReadCase s m (nextOf s m)
 unfolding nextOf plain
-next-way s m r =
-    pick-holds (Way s m) (eqb (m .state .names) (m .state .count)) _ _
-    (λ e. pick-holds (Way s m) (allAtEnd (s .dir) (s .cur)) _ _ (λ f. ends r (eqb-true _ _ e) f) (λ f. refuses _ (unread r (eqb-true _ _ e) f)))
-    (λ e. headed-way s m r (eqb-false _ _ e) _ (head-way s (m .state .names)))
+next-case s m r =
+    pick-holds (ReadCase s m) (eqb (m .state .names) (m .state .count)) _ _
+    (λ e. pick-holds (ReadCase s m) (allAtEnd (s .dir) (s .cur)) _ _ (λ f. ends r (eqb-true _ _ e) f) (λ f. refuses _ (unread r (eqb-true _ _ e) f)))
+    (λ e. headed-case s m r (eqb-false _ _ e) _ (head-case s (m .state .names)))
 
-pub way : (s : Source) (m : Kept) → Way s m (readOf s m)
+pub read-case : (s : Source) (m : Kept) → ReadCase s m (readOf s m)
 unfolding readOf plain
-way s m =
-    pick-holds (Way s m) (sound (length (s .bytes)) (s .dir) (s .cur)) _ _
-    (λ a. pick-holds (Way s m) (counts m) _ _
-    (λ b. pick-holds (Way s m) (allInside (s .dir) (s .cur)) _ _
-    (λ c. next-way s m (record { opened = judged-open _ _ _ a c; counts = counted m b }))
+read-case s m =
+    pick-holds (ReadCase s m) (sound (length (s .bytes)) (s .dir) (s .cur)) _ _
+    (λ a. pick-holds (ReadCase s m) (counts m) _ _
+    (λ b. pick-holds (ReadCase s m) (allInside (s .dir) (s .cur)) _ _
+    (λ c. next-case s m (record { opened = judged-open _ _ _ a c; counts = counted m b }))
     (λ c. refuses _ (outside a b c)))
     (λ b. refuses _ (uncounted a b)))
     (λ a. refuses _ (unsound a))
 
--- where spans, counts and cursors are sound, a read goes on to the name
-pub ready-reads : (s : Source) (m : Kept) → Ready s m → readOf s m ≡ nextOf s m
-unfolding readOf
-ready-reads s m r =
-    pick-true _ _ (open-sound _ _ _ (r .opened)) ∙ pick-true _ _ (counts-of m (r .counts)) ∙ pick-true _ _ (open-inside (s .bytes) _ _ (r .opened))
+-- where spans, counts and cursors are sound, a read goes on to the name, and leaves them so
+module _ (s : Source) (m : Kept) (r : Ready s m) where
+  pub ready-reads : readOf s m ≡ nextOf s m
+  ready-reads = read-next (s .bytes) (s .dir) (s .cur) (m .text) (m .names) (m .rows) (m .state) (r .opened) (r .counts)
+
+  pub ready-holds : Holds (s .bytes) (s .dir) m (readOf s m)
+  ready-holds = rw ready-reads (next-holds (s .bytes) (s .dir) (s .cur) (m .text) (m .names) (m .rows) (m .state) (r .opened) (r .counts))

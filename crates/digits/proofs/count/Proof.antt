@@ -1,5 +1,4 @@
 use borrow.Author.Needs.{needs}
-use native.Mathlib.Omega.{arith}
 use mathlib.Core.Path.{sym}
 use Rattle.digits.proofs.Laws.{count-one, count-is}
 use Rattle.digits.proofs.count.Statement.{statement}

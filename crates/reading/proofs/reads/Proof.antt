@@ -6,8 +6,8 @@ use Rattle.reading.specs.Blocks.{fresh, readsFrom}
 use Rattle.kept.specs.Tables.{keeping}
 use lib.ListN.{length}
 use borrow.Author.Needs.{needs}
-use Prim.Native.Nat.{ℕ, _+_, _-_}
-use mathlib.Core.Path.{_≡_, refl, sym, ap, _∙_}
+use Prim.Native.Nat.{_+_, _-_}
+use mathlib.Core.Path.{_≡_, refl, sym, _∙_}
 use Rattle.reading.proofs.reads.Statement.{statement}
 use Rattle.reading.proofs.reads.Tie as tie
 

@@ -23,8 +23,8 @@ lean-requires : tie.Need-lean-requires
 lean-requires c κs =
     let s = c .before .before .before .before .before in
     let a = s .args in (
-      rw (c .before .before .piece-at .ensures) (piece-within (now (a .name)) (a .p) (a .a) (s .pre .1 .0)),
-      rw (c .piece-at2 .ensures) (piece-within (now (a .before)) (a .p) (a .b) (c .before .if1 .left)),
+      rw (c .before .before .piece-at .ensures) (piece-within (now (a .name)) (a .p .0) (a .a) (s .pre .1 .0)),
+      rw (c .piece-at2 .ensures) (piece-within (now (a .before)) (a .p .0) (a .b) (c .before .if1 .left)),
     )
 
 returns-2 : tie.Need-returns-2

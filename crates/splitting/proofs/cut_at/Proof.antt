@@ -18,7 +18,7 @@ returns c = left _ _ (le-ltb _ _ (c .if1 .taken)) refl
 
 returns-2 : tie.Need-returns-2
 unfolding cutOf
-returns-2 c = took _ _ (lt-ltb _ _ (c .before .if1 .left)) (took _ _ (eq-eqb _ _ (c .if2 .taken)) refl)
+returns-2 c = took _ _ (lt-ltb _ _ (c .before .before .if1 .left)) (took _ _ (eq-eqb _ _ (c .if2 .taken)) refl)
 
 shared-slice-read-run-class : tie.Need-shared-slice-read-run-class
 shared-slice-read-run-class c = search needs
@@ -31,15 +31,15 @@ digits-limit-requires c κs = search needs
 
 number-run-requires : tie.Need-number-run-requires
 number-run-requires c κs =
-    let s = c .before .before .before .before .before .before .before in
-    let r = limit-digits (now (s .args .name)) (s .args .at) (c .before .before .before .before .before .if1 .left) (sym (c .before .before .run-class .ensures) ∙ c .before .if3 .taken) in
+    let s = c .before .before .before .before .before .before .before .before in
+    let r = limit-digits (now (s .args .name)) (s .args .at) (c .before .before .before .before .before .before .if1 .left) (sym (c .before .before .run-class .ensures) ∙ c .before .if3 .taken) in
     (s .pre, rw (c .digits-limit .ensures) (omega arith))
 
 returns-3 : tie.Need-returns-3
 unfolding cutOf
 returns-3 c =
-    let a = c .before .before .before .before .before .before .before .before .args in
-    took _ _ (lt-ltb _ _ (c .before .before .before .before .before .before .if1 .left)) (left _ _ (ne-eqb _ _ (c .before .before .before .before .before .if2 .left))
+    let a = c .before .before .before .before .before .before .before .before .before .args in
+    took _ _ (lt-ltb _ _ (c .before .before .before .before .before .before .before .if1 .left)) (left _ _ (ne-eqb _ _ (c .before .before .before .before .before .if2 .left))
     (took _ _ (eq-eqb _ _ (sym (c .before .before .before .run-class .ensures) ∙ c .before .before .if3 .taken))
     (c .number-run .ensures ∙ ap (λ (to : ℕ). numberRun (now (a .name)) (a .at) (to - a .at)) (c .before .digits-limit .ensures))))
 
@@ -52,8 +52,8 @@ run-end-requires c κs = search needs
 returns-4 : tie.Need-returns-4
 unfolding cutOf
 returns-4 c =
-    let a = c .before .before .before .before .before .before .before .args in
-    let h = c .before .before .before .before .before .if1 .left in
+    let a = c .before .before .before .before .before .before .before .before .args in
+    let h = c .before .before .before .before .before .before .if1 .left in
     let f : runClass (getD (now (a .name)) (a .at) 0) ≡ 1 → ⊥ = λ e. c .before .if3 .left (c .before .before .run-class .ensures ∙ e) in
     let plain : ℕ → Cut = λ e. record { end = e; number = 0 } in
     took _ _ (lt-ltb _ _ h) (left _ _ (ne-eqb _ _ (c .before .before .before .before .if2 .left)) (left _ _ (ne-eqb _ _ f)

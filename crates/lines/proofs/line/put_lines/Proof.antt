@@ -1,4 +1,5 @@
-use Rattle.lines.proofs.Walks.{Naming, names-start, names-room, names-more, names-count, names-end}
+use Rattle.writing.proofs.Walks.{names-count}
+use Rattle.lines.proofs.Walks.{Naming, names-start, names-room, names-more, names-end}
 use Rattle.base.specs.Memory.{part}
 use Rattle.lines.specs.Page.{page}
 use native.Mathlib.Nat.{le-of-lt}
@@ -26,13 +27,13 @@ name-end-requires : tie.Need-name-end-requires Inv-loop μ-loop
 name-end-requires c κs = (c .loop-test .taken, c .before .before .before .before .pre .1 .0 .0)
 
 sub-put-line : tie.Need-sub-put-line Inv-loop μ-loop
-sub-put-line c = c .before .before .before .loop .inv .1 .low
+sub-put-line c = c .before .before .before .loop .inv .1 .stands .low
 
 part-put-line-start : tie.Need-part-put-line-start Inv-loop μ-loop
-part-put-line-start c = c .before .before .before .loop .inv .1 .low
+part-put-line-start c = c .before .before .before .loop .inv .1 .stands .low
 
 part-put-line-end : tie.Need-part-put-line-end Inv-loop μ-loop
-part-put-line-end c = c .before .before .before .loop .inv .1 .high
+part-put-line-end c = c .before .before .before .loop .inv .1 .stands .high
 
 sub-put-line-2 : tie.Need-sub-put-line-2 Inv-loop μ-loop
 sub-put-line-2 c = c .before .before .name-end .ensures .low
@@ -62,7 +63,7 @@ add-n c =
     let l = c .before .before .before .before .before .before .before .before .loop in
     let s = c .before .before .before .before .before .before .before .before .before .before .before in
     let a = s .args in
-    let h = names-count (now (a .input)) (page (now (a .out)) 0) (page (l .out) (l .at)) (l .n) (l .from) (l .to) (l .start) (l .inv .1) _ (c .before .before .before .before .before .before .name-end .ensures) in
+    let h = names-count (now (a .input)) (l .n) (l .from) (l .to) (l .start) (l .inv .1 .stands) _ (c .before .before .before .before .before .before .name-end .ensures) in
     omega (arith, s .pre .1 .0 .1)
 
 loop-less : tie.Need-loop-less Inv-loop μ-loop

@@ -1,5 +1,5 @@
 use Rattle.names.specs.Names.{typeIn}
-use mathlib.Core.Path.{_≡_, sym, ap, _∙_}
+use mathlib.Core.Path.{sym, ap, _∙_}
 use borrow.Author.Needs.{needs}
 use Rattle.names.proofs.keeping.type_in.Statement.{statement}
 use Rattle.names.proofs.keeping.type_in.Tie as tie

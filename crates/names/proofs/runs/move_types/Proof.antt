@@ -10,12 +10,12 @@ use Rattle.names.proofs.runs.move_types.Statement.{statement}
 use Rattle.names.proofs.runs.move_types.Tie as tie
 
 abbrev Inv-loop : tie.InvT-loop
-Inv-loop cursors₀ p q i₀ cursors i =
-    (p ≤ i) × ((length cursors ≡ length cursors₀) × (((j : ℕ) → i ≤ j → cursorOf cursors (spanOf j 0) ≡ cursorOf cursors₀ (spanOf j 0)) ×
-    (typesPast cursors i (q - i) ≡ typesPast cursors₀ p (q - p))))
+Inv-loop cursors₀ stop i₀ cursors i =
+    (i₀ ≤ i) × ((length cursors ≡ length cursors₀) × (((j : ℕ) → i ≤ j → cursorOf cursors (spanOf j 0) ≡ cursorOf cursors₀ (spanOf j 0)) ×
+    (typesPast cursors i (stop - i) ≡ typesPast cursors₀ i₀ (stop - i₀))))
 
 abbrev μ-loop : tie.MeasureT-loop
-μ-loop cursors₀ p q i₀ cursors i = q - i
+μ-loop cursors₀ stop i₀ cursors i = stop - i
 
 loop-holds : tie.Need-loop-holds Inv-loop μ-loop
 loop-holds c = (search needs, (refl, (λ j h. refl, refl)))
@@ -40,7 +40,7 @@ loop-again c =
         length-typed (l .cursors) (l .i) e ∙ l .inv .1 .0,
         (
           λ j k. type-later (l .cursors) (l .i) j e k ∙ l .inv .1 .1 .0 j (omega arith),
-          types-more (l .cursors) (l .i) (a .q - l .i) (a .q - (l .i + 1)) (omega arith) e ∙ l .inv .1 .1 .1,
+          types-more (l .cursors) (l .i) (a .q .0 - l .i) (a .q .0 - (l .i + 1)) (omega arith) e ∙ l .inv .1 .1 .1,
         ),
       ),
     )
@@ -51,7 +51,7 @@ same-length c = c .before .loop .inv .1 .0
 returns : tie.Need-returns Inv-loop μ-loop
 returns c =
     let h = c .before in let a = h .before .before .args in let l = h .loop in
-    types-over (l .cursors) (l .i) (a .q - l .i) (omega arith) ∙ l .inv .1 .1 .1
+    types-over (l .cursors) (l .i) (a .q .0 - l .i) (omega arith) ∙ l .inv .1 .1 .1
 
 pub move-types-spec : {M : Type 1} → statement M
 move-types-spec =

@@ -8,10 +8,10 @@ use Rattle.names.proofs.runs.repeat.Statement.{statement}
 use Rattle.names.proofs.runs.repeat.Tie as tie
 
 -- the run's text ends below the place that it is copied to
-ends : (p : tie.Start) → getD (now (p .args .rows)) (5 * (p .args .first + (p .args .p - 1)) + 3) 0 + p .args .w ≤ p .args .at
+ends : (p : tie.Start) → getD (now (p .args .rows)) (5 * (p .args .first + (p .args .p .0 - 1)) + 3) 0 + p .args .w ≤ p .args .at
 ends p =
     let a = p .args in
-    repeat-ends (now (a .text)) (now (a .rows)) (a .first) (a .p) (a .q) (a .w) (a .at) (p .pre .1 .1 .0) (p .pre .1 .1 .1 .0) (omega (arith, p .pre .0)) (omega (arith, p .pre .0)) (p .pre .1 .1 .1 .1 .0)
+    repeat-ends (now (a .text)) (now (a .rows)) (a .first) (a .p .0) (a .q .0) (a .w) (a .at) (p .pre .1 .1 .0) (p .pre .1 .1 .1 .0) (omega (arith, p .pre .0)) (omega (arith, p .pre .0)) (p .pre .1 .1 .1 .1 .0)
 
 sub-from : tie.Need-sub-from
 sub-from c = search needs
@@ -44,13 +44,13 @@ slice-read-start : tie.Need-slice-read-start
 slice-read-start c = search needs
 
 cast-start : tie.Need-cast-start
-cast-start c = record { fits = let p = c .before .before .before .before in omega (arith, ends p, p .pre .1 .1 .1 .1 .1 .0 .1) }
+cast-start c = record { fits = let p = c .before .before .before .before .before .before in omega (arith, ends p, p .pre .1 .1 .1 .1 .1 .0 .1) }
 
 add-copy-within : tie.Need-add-copy-within
-add-copy-within c = record { fits = let p = c .before .before .before .before .before in omega (arith, ends p, p .pre .1 .1 .1 .1 .1 .0 .1) }
+add-copy-within c = record { fits = let p = c .before .before .before .before .before .before .before in omega (arith, ends p, p .pre .1 .1 .1 .1 .1 .0 .1) }
 
 copy-within-requires : tie.Need-copy-within-requires
-copy-within-requires c κs = let p = c .before .before .before .before .before in (omega arith, (ends p, omega (arith, p .pre .1 .1 .1 .1 .1 .0 .0)))
+copy-within-requires c κs = let p = c .before .before .before .before .before .before .before in (omega arith, (ends p, omega (arith, p .pre .1 .1 .1 .1 .1 .0 .0)))
 
 sub-copy-rows : tie.Need-sub-copy-rows
 sub-copy-rows c = search needs
@@ -63,11 +63,11 @@ cast-copy-rows c = search needs
 
 copy-rows-requires : tie.Need-copy-rows-requires
 copy-rows-requires c κs =
-    let p = c .before .before .before .before .before .before .before .before .before in let a = p .args in let r = p .pre .1 .1 .1 .1 .1 .1 in let z = p .pre .0 .1 in (
+    let p = c .before .before .before .before .before .before .before .before .before .before .before .before in let a = p .args in let r = p .pre .1 .1 .1 .1 .1 .1 in let z = p .pre .0 .1 in (
       (omega arith, (omega (arith, r .0), omega (arith, r .1 .1))),
       (
-        repeat-laid (now (a .text)) (now (a .rows)) (a .first) (a .p) (a .q) (a .w) (a .at) (p .pre .1 .1 .0) (p .pre .1 .1 .1 .0) (omega arith) (omega arith) (p .pre .1 .1 .1 .1 .0),
-        repeat-fits (now (a .text)) (now (a .rows)) (a .first) (a .p) (a .q) (a .w) (a .at) (p .pre .1 .1 .0) (p .pre .1 .1 .1 .0) (omega arith) (omega arith) (p .pre .1 .1 .1 .1 .0) (p .pre .1 .1 .1 .1 .1 .0 .1),
+        repeat-laid (now (a .text)) (now (a .rows)) (a .first) (a .p .0) (a .q .0) (a .w) (a .at) (p .pre .1 .1 .0) (p .pre .1 .1 .1 .0) (omega arith) (omega arith) (p .pre .1 .1 .1 .1 .0),
+        repeat-fits (now (a .text)) (now (a .rows)) (a .first) (a .p .0) (a .q .0) (a .w) (a .at) (p .pre .1 .1 .0) (p .pre .1 .1 .1 .0) (omega arith) (omega arith) (p .pre .1 .1 .1 .1 .0) (p .pre .1 .1 .1 .1 .1 .0 .1),
       ),
     )
 
@@ -85,9 +85,9 @@ same-length-3 c = search needs
 
 returns : tie.Need-returns
 returns c =
-    let p = c .before .before .before .before .before .before .before .before .before .before .before .before .before .before .before .before in let a = p .args in let z = p .pre .0 .1 in
-    repeat-put (now (a .text)) (now (a .rows)) (now (a .cursors)) (a .first + (a .p - 1)) (a .first + (a .q - 1) - (a .first + (a .p - 1))) (a .q - a .p) (a .w) (a .at) (a .row + (a .p - 1)) (a .p) (a .q)
-    (omega arith) (c .before .before .before .before .before .before .before .before .before .before .copy-within .ensures) (c .before .before .before .before .before .before .copy-rows .ensures) (c .before .before .move-types .ensures)
+    let p = c .before .before .before .before .before .before .before .before .before .before .before .before .before .before .before .before .before .before .before in let a = p .args in let z = p .pre .0 .1 in
+    repeat-put (now (a .text)) (now (a .rows)) (now (a .cursors)) (a .first + (a .p .0 - 1)) (a .first + (a .q .0 - 1) - (a .first + (a .p .0 - 1))) (a .q .0 - a .p .0) (a .w) (a .at) (a .row + (a .p .0 - 1)) (a .p .0) (a .q .0)
+    (omega arith) (c .before .before .before .before .before .before .before .before .before .before .before .copy-within .ensures) (c .before .before .before .before .before .before .copy-rows .ensures) (c .before .before .move-types .ensures)
 
 pub repeat-spec : {M : Type 1} → statement M
 repeat-spec =

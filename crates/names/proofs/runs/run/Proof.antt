@@ -27,8 +27,8 @@ same-length c = search needs
 
 returns : tie.Need-returns
 returns c =
-    let p = c .before .before .before .before .before .before .before .before in let a = p .args in
-    (ran-none (src p) (back p) (a .end) (a .p) (c .before .run-end .result) (a .len) (c .before .run-end .ensures) (c .if1 .taken), puts-none (back p) (a .used) (a .row) (a .p) (a .len) (mem p) (a .keeping) (a .p) (a .len) (omega arith))
+    let p = c .before .before .before .before .before .before .before .before .before .before in let a = p .args in
+    (ran-none (src p) (back p) (a .end .0) (a .p .0) (c .before .before .before .run-end .result .0) (a .len) (c .before .before .before .run-end .ensures) (c .if1 .taken), puts-none (back p) (a .used) (a .row) (a .p .0) (a .len) (mem p) (a .keeping) (a .p .0) (a .len) (omega arith))
 
 sub-run-length : tie.Need-sub-run-length
 sub-run-length c = search needs
@@ -44,8 +44,8 @@ sub-run-length-2 c = search needs
 
 add-run-length-2 : tie.Need-add-run-length-2
 add-run-length-2 c =
-    let p = c .before .before .before .before .before .before .before .before .before in let a = p .args in let q = c .before .before .run-end in
-    let f = run-few (src p) (back p) (a .used) (a .end) (a .p) (q .result) (p .pre .1 .0) (p .pre .1 .1 .0) (p .pre .1 .1 .1 .0 .0) (q .ensures) (omega arith) in
+    let p = c .before .before .before .before .before .before .before .before .before .before .before .before .before in let a = p .args in let q = c .before .before .before .before .before .before .run-end in
+    let f = run-few (src p) (back p) (a .used) (a .end .0) (a .p .0) (q .result .0) (p .pre .1 .0) (p .pre .1 .1 .0) (p .pre .1 .1 .1 .0 .0) (q .ensures) (omega arith) in
     record { fits = omega (arith, f .0, p .pre .1 .1 .1 .1 .0) }
 
 cast-run-length-2 : tie.Need-cast-run-length-2
@@ -53,8 +53,8 @@ cast-run-length-2 c = search needs
 
 run-length-requires : tie.Need-run-length-requires
 run-length-requires c κs =
-    let p = c .before .before .before .before .before .before .before .before .before in let a = p .args in let q = c .before .before .run-end in
-    length-asks (src p) (back p) (a .used) (a .end) (a .p) (q .result) (p .pre .1 .0) (p .pre .1 .1 .0) (p .pre .1 .1 .1 .0 .0) (q .ensures) (omega arith) (p .pre .1 .1 .1 .1 .0 .0)
+    let p = c .before .before .before .before .before .before .before .before .before .before .before .before .before in let a = p .args in let q = c .before .before .before .before .before .before .run-end in
+    length-asks (src p) (back p) (a .used) (a .end .0) (a .p .0) (q .result .0) (p .pre .1 .0) (p .pre .1 .1 .0) (p .pre .1 .1 .1 .0 .0) (q .ensures) (omega arith) (p .pre .1 .1 .1 .1 .0 .0)
 
 sub-if2 : tie.Need-sub-if2
 sub-if2 c = search needs
@@ -67,9 +67,9 @@ same-length-3 c = search needs
 
 returns-2 : tie.Need-returns-2
 returns-2 c =
-    let p = c .before .before .before .before .before .before .before .before .before .before .before in let a = p .args in let q = c .before .before .before .before .run-end in let w = c .before .run-length in (
-      ran-long (src p) (back p) (a .end) (a .p) (q .result) (a .len) (q .ensures) (w .result) (w .ensures) (omega arith) (omega arith),
-      puts-long (back p) (a .used) (a .row) (a .p) (a .len) (mem p) (a .keeping),
+    let p = c .before .before .before .before .before .before .before .before .before .before .before .before .before .before .before in let a = p .args in let q = c .before .before .before .before .before .before .before .before .run-end in let w = c .before .run-length in (
+      ran-long (src p) (back p) (a .end .0) (a .p .0) (q .result .0) (a .len) (q .ensures) (w .result) (w .ensures) (omega arith) (omega arith),
+      puts-long (back p) (a .used) (a .row) (a .p .0) (a .len) (mem p) (a .keeping),
     )
 
 add-repeat : tie.Need-add-repeat
@@ -77,19 +77,19 @@ add-repeat c = search needs
 
 repeat-requires : tie.Need-repeat-requires
 repeat-requires c κs =
-    let p = c .before .before .before .before .before .before .before .before .before .before .before .before .before .before .before in let a = p .args in let q = c .before .before .before .before .before .before .before .before .run-end in let w = c .before .before .before .before .before .run-length in
-    let some : a .p < q .result = omega arith in
-    let f = run-few (src p) (back p) (a .used) (a .end) (a .p) (q .result) (p .pre .1 .0) (p .pre .1 .1 .0) (p .pre .1 .1 .1 .0 .0) (q .ensures) some in
-    let o = ran-on (src p) (back p) (a .end) (a .p) (q .result) (a .len) (q .ensures) (w .result) (w .ensures) some (omega arith) in
-    let z = p .pre .1 .1 .1 .1 .1 (c .before .before .before .if3 .taken) (q .result) (a .len + w .result) (sym o) in
+    let p = c .before .before .before .before .before .before .before .before .before .before .before .before .before .before .before .before .before .before .before in let a = p .args in let q = c .before .before .before .before .before .before .before .before .before .before .before .before .run-end in let w = c .before .before .before .before .before .run-length in
+    let some : a .p .0 < q .result .0 = omega (arith, c .before .before .before .before .before .before .before .before .before .if1 .left) in
+    let f = run-few (src p) (back p) (a .used) (a .end .0) (a .p .0) (q .result .0) (p .pre .1 .0) (p .pre .1 .1 .0) (p .pre .1 .1 .1 .0 .0) (q .ensures) some in
+    let o = ran-on (src p) (back p) (a .end .0) (a .p .0) (q .result .0) (a .len) (q .ensures) (w .result) (w .ensures) some (omega arith) in
+    let z = p .pre .1 .1 .1 .1 .1 (c .before .before .before .if3 .taken) (q .result .0) (a .len + w .result) (sym o) in
     let u = p .pre .1 .1 .1 .1 .0 in (
       (p .pre .0 .table, (p .pre .1 .1 .1 .0 .0, (some, f .1))),
       (
-        run-moves (src p) (back p) (a .used) (a .end) (a .p) (q .result) (p .pre .1 .0) (p .pre .1 .1 .0) (p .pre .1 .1 .1 .0 .0) (q .ensures) some (λ i. omega (arith, c .before .before .before .before .before .before .before .before .before .before .before .before .before .shared-slice-known2 .given i)),
+        run-moves (src p) (back p) (a .used) (a .end .0) (a .p .0) (q .result .0) (p .pre .1 .0) (p .pre .1 .1 .0) (p .pre .1 .1 .1 .0 .0) (q .ensures) some (λ i. omega (arith, c .before .before .before .before .before .before .before .before .before .before .before .before .before .before .before .before .before .shared-slice-known2 .given i)),
         (
-          fewer-rows (now (a .text)) (now (a .rows)) (a .first) (a .count) (q .result - 1) (omega (arith, f .0)) (a .used) (a .used + a .len) (omega arith) (omega (arith, z .0)) (p .pre .1 .0),
+          fewer-rows (now (a .text)) (now (a .rows)) (a .first) (a .count) (q .result .0 - 1) (omega (arith, f .0)) (a .used) (a .used + a .len) (omega arith) (omega (arith, z .0)) (p .pre .1 .0),
           (
-            fewer-spelt (now (a .text)) (now (a .rows)) (a .first) (a .count) (q .result - 1) (omega (arith, f .0)) (run-spelt (src p) (back p) (a .used) (a .end) (a .p) (q .result) (p .pre .1 .0) (p .pre .1 .1 .0) (p .pre .1 .1 .1 .0 .0) (q .ensures) some),
+            fewer-spelt (now (a .text)) (now (a .rows)) (a .first) (a .count) (q .result .0 - 1) (omega (arith, f .0)) (run-spelt (src p) (back p) (a .used) (a .end .0) (a .p .0) (q .result .0) (p .pre .1 .0) (p .pre .1 .1 .0) (p .pre .1 .1 .1 .0 .0) (q .ensures) some),
             (
               w .ensures,
               ((omega (arith, z .0), omega (arith, u .0)), (omega (arith, f .0, u .1 .0), (u .1 .1, z .1))),
@@ -113,10 +113,10 @@ same-length-6 c = search needs
 
 returns-3 : tie.Need-returns-3
 returns-3 c =
-    let p = c .before .before .before .before .before .before .before .before .before .before .before .before .before .before .before .before .before .before .before .before .before .before in let a = p .args in let q = c .before .before .before .before .before .before .before .before .before .before .before .before .before .before .before .run-end in let w = c .before .before .before .before .before .before .before .before .before .before .before .before .run-length in
-    let some : a .p < q .result = omega (arith, c .before .before .before .before .before .before .before .before .before .before .before .before .before .before .if1 .left) in (
-      ran-on (src p) (back p) (a .end) (a .p) (q .result) (a .len) (q .ensures) (w .result) (w .ensures) some (omega (arith, c .before .before .before .before .before .before .before .before .before .before .before .if2 .left, p .pre .1 .1 .1 .0)),
-      puts-run (back p) (a .used) (a .row) (a .p) (a .len) (mem p) (a .keeping) (q .result) (w .result) (c .before .before .before .before .before .before .before .before .before .before .if3 .taken) some (c .before .before .before .before .before .before .repeat .ensures),
+    let p = c .before .before .before .before .before .before .before .before .before .before .before .before .before .before .before .before .before .before .before .before .before .before .before .before .before .before in let a = p .args in let q = c .before .before .before .before .before .before .before .before .before .before .before .before .before .before .before .before .before .before .before .run-end in let w = c .before .before .before .before .before .before .before .before .before .before .before .before .run-length in
+    let some : a .p .0 < q .result .0 = omega (arith, c .before .before .before .before .before .before .before .before .before .before .before .before .before .before .before .before .if1 .left) in (
+      ran-on (src p) (back p) (a .end .0) (a .p .0) (q .result .0) (a .len) (q .ensures) (w .result) (w .ensures) some (omega (arith, c .before .before .before .before .before .before .before .before .before .before .before .if2 .left, p .pre .1 .1 .1 .0)),
+      puts-run (back p) (a .used) (a .row) (a .p .0) (a .len) (mem p) (a .keeping) (q .result .0) (w .result) (c .before .before .before .before .before .before .before .before .before .before .if3 .taken) some (c .before .before .before .before .before .before .repeat .ensures),
     )
 
 add-t25 : tie.Need-add-t25
@@ -130,9 +130,9 @@ same-length-8 c = search needs
 
 returns-4 : tie.Need-returns-4
 returns-4 c =
-    let p = c .before .before .before .before .before .before .before .before .before .before .before .before in let a = p .args in let q = c .before .before .before .before .before .run-end in let w = c .before .before .run-length in (
-      ran-on (src p) (back p) (a .end) (a .p) (q .result) (a .len) (q .ensures) (w .result) (w .ensures) (omega arith) (omega arith),
-      puts-not (back p) (a .used) (a .row) (a .p) (a .len) (mem p) (a .keeping) (q .result) (a .len + w .result) (c .if3 .left),
+    let p = c .before .before .before .before .before .before .before .before .before .before .before .before .before .before .before .before in let a = p .args in let q = c .before .before .before .before .before .before .before .before .before .run-end in let w = c .before .before .run-length in (
+      ran-on (src p) (back p) (a .end .0) (a .p .0) (q .result .0) (a .len) (q .ensures) (w .result) (w .ensures) (omega arith) (omega arith),
+      puts-not (back p) (a .used) (a .row) (a .p .0) (a .len) (mem p) (a .keeping) (q .result .0) (a .len + w .result) (c .if3 .left),
     )
 
 pub run-spec : {M : Type 1} → statement M

@@ -21,8 +21,8 @@ cast-put-byte c = search needs
 put-byte-requires : tie.Need-put-byte-requires
 put-byte-requires c κs = let a = c .before .before .before .before .before .before .before .before in omega (arith, a .pre .1 (c .before .before .before .before .before .if1 .taken) .0)
 
-sub-t14 : tie.Need-sub-t14
-sub-t14 c = search needs
+sub-t13 : tie.Need-sub-t13
+sub-t13 c = search needs
 
 same-length : tie.Need-same-length
 same-length c = search needs
@@ -32,21 +32,21 @@ same-length-2 c = search needs
 
 returns : tie.Need-returns
 returns c =
-    let k = c .before .before .before .before .before .before .before .before .if1 .taken in let t = c .before .before .put-byte .ensures in
-    (kept-ends _ _ k, (took _ _ k (rw t), took _ _ k (c .before .before .before .before .before .before .move-on .ensures)))
+    let k = c .before .before .before .before .before .before .before .before .before .if1 .taken in let t = c .before .before .before .put-byte .ensures in
+    (kept-ends _ _ k, (took _ _ k (rw t), took _ _ k (c .before .before .before .before .before .before .before .move-on .ensures)))
 
 returns-2 : tie.Need-returns-2
 returns-2 c =
     let k = c .before .if1 .left in let e = c .if2 .taken in
     (empty-ends _ _ k (eq-eqb (c .before .before .before .before .args .len) 0 (omega arith)), (left _ _ k refl, left _ _ k refl))
 
-sub-t16 : tie.Need-sub-t16
-sub-t16 c = search needs
+sub-t15 : tie.Need-sub-t15
+sub-t15 c = search needs
 
 returns-3 : tie.Need-returns-3
 returns-3 c =
-    let k = c .before .if1 .left in
-    (judged-ends _ _ k (ne-eqb (c .before .before .before .before .args .len) 0 (λ e. c .if2 .left (omega arith))), (left _ _ k refl, left _ _ k refl))
+    let k = c .before .before .if1 .left in
+    (judged-ends _ _ k (ne-eqb (c .before .before .before .before .before .args .len) 0 (λ e. c .before .if2 .left (omega arith))), (left _ _ k refl, left _ _ k refl))
 
 pub ended-spec : {M : Type 1} → statement M
 ended-spec =
@@ -56,10 +56,10 @@ ended-spec =
     add-put-byte
     cast-put-byte
     put-byte-requires
-    sub-t14
+    sub-t13
     same-length
     same-length-2
     returns
     returns-2
-    sub-t16
+    sub-t15
     returns-3)

@@ -20,9 +20,9 @@ add-row c = search needs
 
 keep-token-requires : tie.Need-keep-token-requires
 keep-token-requires c κs =
-    let a = c .before .before .before .before .before .before .before .before .before .before .before .before in let k = a .pre .1 .1 (c .before .before .before .before .before .before .before .if1 .taken) in
+    let a = c .before .before .before .before .before .before .before .before .before .before .before .before .before in let k = a .pre .1 .1 (c .before .before .before .before .before .before .before .before .if1 .taken) in
     let room = k .table in
-    (a .pre .0, (k .below, ((k .bytes, omega arith), ((k .spans, (a .pre .1 .0 .0 .1, k .typed)), λ h. k .movable (sym (c .before .before .before .before .before .before .type-in .ensures) ∙ h)))))
+    (a .pre .0, (k .below, ((k .bytes, omega arith), ((k .spans, (a .pre .1 .0 .0 .1, k .typed)), λ h. k .movable (sym (c .before .before .before .before .before .before .before .type-in .ensures) ∙ h)))))
 
 same-length : tie.Need-same-length
 same-length c = search needs
@@ -35,8 +35,8 @@ same-length-3 c = search needs
 
 returns : tie.Need-returns
 returns c =
-    let k = c .before .before .before .before .before .before .before .before .before .before .before .before .before .before .if1 .taken in let x = c .before .before .before .before .before .before .keep-token .ensures in
-    (kept-on _ _ _ _ _ k (x .0), took _ _ k (put-typed _ _ _ _ _ _ _ (c .before .before .before .before .before .before .before .before .before .before .before .before .before .type-in .ensures) (x .1)))
+    let k = c .before .before .before .before .before .before .before .before .before .before .before .before .before .before .before .if1 .taken in let x = c .before .before .before .before .before .before .keep-token .ensures in
+    (kept-on _ _ _ _ _ k (x .0), took _ _ k (put-typed _ _ _ _ _ _ _ (c .before .before .before .before .before .before .before .before .before .before .before .before .before .before .type-in .ensures) (x .1)))
 
 length-requires : tie.Need-length-requires
 length-requires c κs = search needs

@@ -2,9 +2,9 @@ use native.Mathlib.Omega.{arith}
 use Prim.Native.Nat.{_^_}
 use mathlib.Core.Path.{_≡_, sym, ap, _∙_}
 use denote.Ref.{now}
+use Rattle.base.specs.Every.{Below}
 use Rattle.steps.specs.Source.{Source, source, Earlier, earlier}
 use Rattle.steps.specs.Steps.{stepAt}
-use Rattle.steps.specs.Sound.{Below}
 use Rattle.steps.proofs.Laws.{Known, rows-reach}
 use Rattle.names.specs.Names.{typeIn}
 use Rattle.names.proofs.Turns.{step-of}
@@ -23,7 +23,7 @@ src h = let a = h .before .before .before .before .before .args in source (now (
 abbrev back : Entry → Earlier
 back h = let a = h .before .before .before .before .before .args in earlier (now (a .text)) (now (a .rows)) (a .first) (a .count)
 
-known : (h : Entry) → Known (src h) (back h) (h .before .before .before .before .before .args .at .used) (h .before .before .before .before .before .args .at .p)
+known : (h : Entry) → Known (src h) (back h) (h .before .before .before .before .before .args .at .used) (h .before .before .before .before .before .args .at .p .0)
 known h =
     let a = h .before .before .before .before .before in
     record {
@@ -40,23 +40,23 @@ dir-below : (h : Entry) → Below (2 ^ 32) (src h .dir)
 dir-below h i = omega (arith, h .before .before .before .shared-slice-known2 .given i)
 
 -- the step that was taken
-stepped : (x : tie.After-typed-step) → x .typed-step .result ≡ stepAt (src (x .before .before .before .before .before .before)) (back (x .before .before .before .before .before .before)) (x .before .before .before .before .before .before .before .before .before .before .before .args .at .p)
-stepped x = step-of (src (x .before .before .before .before .before .before)) (back (x .before .before .before .before .before .before)) (x .before .before .before .before .before .before .before .before .before .before .before .args .at .p) (x .before .before .before .before .byte-in .ensures) (x .typed-step .ensures)
+stepped : (x : tie.After-typed-step) → x .typed-step .result ≡ stepAt (src (x .before .before .before .before .before .before .before)) (back (x .before .before .before .before .before .before .before)) (x .before .before .before .before .before .before .before .before .before .before .before .before .args .at .p .0)
+stepped x = step-of (src (x .before .before .before .before .before .before .before)) (back (x .before .before .before .before .before .before .before)) (x .before .before .before .before .before .before .before .before .before .before .before .before .args .at .p .0) (x .before .before .before .before .byte-in .ensures) (x .typed-step .ensures)
 
 byte-in-requires : tie.Need-byte-in-requires
 byte-in-requires c κs = search needs
 
 typed-step-requires : tie.Need-typed-step-requires
 typed-step-requires c κs =
-    let a = c .before .before .before .before .before .before .before .before .before .before in
-    (a .pre .0, (rows-reach (a .args .at .used) (back (c .before .before .before .before .before)) (a .pre .1 .0) (omega arith), (omega arith, a .pre .1 .1 .0 .0 .0)))
+    let a = c .before .before .before .before .before .before .before .before .before .before .before in
+    (a .pre .0, (rows-reach (a .args .at .used) (back (c .before .before .before .before .before .before)) (a .pre .1 .0) (omega arith), (omega arith, a .pre .1 .1 .0 .0 .0)))
 
 enum-known-t : tie.Need-enum-known-t
 enum-known-t c = search needs
 
 take-requires : tie.Need-take-requires
 take-requires c κs =
-    let h = c .before .before .before .before .before .before .before .before .before .before .before .before in let a = c .before .before .before .before .before .before .before .before .before .before .before .before .before .before .before .before .before in
+    let h = c .before .before .before .before .before .before .before .before .before .before .before .before .before in let a = c .before .before .before .before .before .before .before .before .before .before .before .before .before .before .before .before .before .before in
     let q = sym (stepped (c .before .before .before .before .before .before)) ∙ c .before .before .before .before .t .given .1 in (
       token-inside (src h) (back h) (a .args .at) (known h) (dir-below h) _ _ q,
       (a .pre .1 .1 .0 .0, λ k. token-keeps (src h) (back h) (a .args .at) (known h) (dir-below h) _ _ q (c .before .before .before .before .before .before .before .before .before .before .byte-in .ensures) (a .pre .1 .1 .1 k)),

@@ -1,5 +1,5 @@
 use Rattle.reading.proofs.Heads.{dup-near, dup-far, dup-short}
-use mathlib.Core.Path.{_≡_, refl, sym, ap, _∙_}
+use mathlib.Core.Path.{sym, _∙_}
 use borrow.Author.Needs.{needs}
 use Rattle.reading.proofs.heading.dup_head.Statement.{statement}
 use Rattle.reading.proofs.heading.dup_head.Tie as tie

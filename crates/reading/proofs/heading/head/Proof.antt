@@ -1,7 +1,7 @@
 use Rattle.reading.proofs.Heads.{head-dup, head-diff, head-other, head-short}
 use Rattle.steps.specs.Source.{source}
 use denote.Ref.{now}
-use mathlib.Core.Path.{_≡_, refl, sym, ap, _∙_}
+use mathlib.Core.Path.{sym, _∙_}
 use borrow.Author.Needs.{needs}
 use Rattle.reading.proofs.heading.head.Statement.{statement}
 use Rattle.reading.proofs.heading.head.Tie as tie

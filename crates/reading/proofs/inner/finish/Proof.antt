@@ -1,5 +1,5 @@
 use Rattle.reading.proofs.Outcomes.{finish-done, finish-short}
-use mathlib.Core.Path.{_≡_, refl, sym, ap, _∙_}
+use mathlib.Core.Path.{sym, _∙_}
 use borrow.Author.Needs.{needs}
 use Rattle.reading.proofs.inner.finish.Statement.{statement}
 use Rattle.reading.proofs.inner.finish.Tie as tie

@@ -3,7 +3,7 @@ use Rattle.reading.proofs.Heads.{head-passable, dup-told, diff-told}
 use Rattle.steps.specs.Source.{source}
 use denote.Ref.{now}
 use native.Mathlib.Omega.{arith}
-use mathlib.Core.Path.{_≡_, refl, sym, ap, _∙_}
+use mathlib.Core.Path.{sym, _∙_}
 use borrow.Author.Needs.{needs}
 use Rattle.reading.proofs.inner.next.Statement.{statement}
 use Rattle.reading.proofs.inner.next.Tie as tie

@@ -22,7 +22,7 @@ returns-3 : tie.Need-returns-3
 returns-3 c =
     λ text.
     let r = c .before .before .before .before in
-    delta-is _ _ _ (r .before .if1 .left) (r .row-here .ensures) (c .before .before .if2 .left) (c .before .byte-in .ensures) (c .delta-step .ensures)
+    delta-is _ _ _ (r .before .if1 .left) (r .row-here .ensures) {b = c .before .byte-in .result} (c .before .before .if2 .left) (rw (c .before .byte-in .ensures)) (c .delta-step .ensures)
 
 pub delta-at-spec : {M : Type 1} → statement M
 delta-at-spec =

@@ -1,22 +1,30 @@
 use mathlib.Core.Path.{sym, subst}
 use denote.Ref.{now}
 use borrow.Author.Needs.{needs}
+use Rattle.block.specs.Block.{spanOf}
 use Rattle.laying.specs.Passes.{World, world, Room}
 use Rattle.writing.proofs.PutLaws.{head-room, head-ran}
 use Rattle.writing.proofs.puts.put_head.Statement.{statement}
 use Rattle.writing.proofs.puts.put_head.Tie as tie
 
+span-of-requires : tie.Need-span-of-requires
+span-of-requires c κs = search needs
+
 put-byte-requires : tie.Need-put-byte-requires
 put-byte-requires c κs =
-    let s = c .before .before .before .before in
+    let s = c .before .before .before .before .before in
     let a = s .args in
-    head-room (a .pass) (a .number) (a .distance .0) (world (a .total) (now (a .directory)) (now (a .bytes))) (s .pre .1) .0
+    rw (c .before .before .span-of .ensures) (head-room (a .pass) (a .number) (a .distance .0) (world (a .total) (now (a .directory)) (now (a .bytes))) (s .pre .1) .0)
+
+span-of-requires-2 : tie.Need-span-of-requires-2
+span-of-requires-2 c κs = search needs
 
 put-four-requires : tie.Need-put-four-requires
 put-four-requires c κs =
-    let s = c .before .before .before .before .before .before .before .before .before .before .before in
+    let s = c .before .before .before .before .before .before .before .before .before .before .before .before .before in
     let a = s .args in
-    subst (λ (w : World). Room (a .pass) (a .number) 4 w) (sym (c .before .before .before .before .before .before .put-byte .ensures)) (head-room (a .pass) (a .number) (a .distance .0) (world (a .total) (now (a .directory)) (now (a .bytes))) (s .pre .1) .1)
+    let d = rw (c .before .before .before .before .before .before .before .before .before .before .span-of .ensures) at (c .before .before .before .before .before .before .before .put-byte .ensures) in
+    rw (c .before .before .span-of2 .ensures) (subst (λ (w : World). Room (a .pass) (spanOf 0 (a .number)) 4 w) (sym d) (head-room (a .pass) (a .number) (a .distance .0) (world (a .total) (now (a .directory)) (now (a .bytes))) (s .pre .1) .1))
 
 same-length : tie.Need-same-length
 same-length c = search needs
@@ -26,10 +34,11 @@ same-length-2 c = search needs
 
 returns : tie.Need-returns
 returns c =
-    let s = c .before .before .before .before .before .before .before .before .before .before .before .before .before .before .before .before in
+    let s = c .before .before .before .before .before .before .before .before .before .before .before .before .before .before .before .before .before .before in
     let a = s .args in
-    head-ran (a .pass) (a .number) (a .distance .0) (world (a .total) (now (a .directory)) (now (a .bytes))) _ _ (c .before .before .before .before .before .before .before .before .before .before .before .put-byte .ensures) (c .before .before .before .before .put-four .ensures)
+    head-ran (a .pass) (a .number) (a .distance .0) (world (a .total) (now (a .directory)) (now (a .bytes))) _ _ (rw (c .before .before .before .before .before .before .before .before .before .before .before .before .before .before .before .span-of .ensures) at (c .before .before .before .before .before .before .before .before .before .before .before .before .put-byte .ensures)) (rw (c .before .before .before .before .before .before .before .span-of2 .ensures) at (c .before .before .before .before .put-four .ensures))
 
 pub put-head-spec : {M : Type 1} → statement M
 put-head-spec =
-    tie.close (tie.spec put-byte-requires put-four-requires same-length same-length-2 returns)
+    tie.close
+    (tie.spec span-of-requires put-byte-requires span-of-requires-2 put-four-requires same-length same-length-2 returns)

@@ -26,13 +26,13 @@ name-end-requires : tie.Need-name-end-requires Inv-loop μ-loop
 name-end-requires c κs = (c .loop-test .taken, c .before .before .before .before .before .pre .1 .0 .0)
 
 sub-put-name : tie.Need-sub-put-name Inv-loop μ-loop
-sub-put-name c = c .before .before .before .before .loop .inv .1 .1 .low
+sub-put-name c = c .before .before .before .before .loop .inv .1 .1 .stands .low
 
 part-put-name-start : tie.Need-part-put-name-start Inv-loop μ-loop
-part-put-name-start c = c .before .before .before .before .loop .inv .1 .1 .low
+part-put-name-start c = c .before .before .before .before .loop .inv .1 .1 .stands .low
 
 part-put-name-end : tie.Need-part-put-name-end Inv-loop μ-loop
-part-put-name-end c = c .before .before .before .before .loop .inv .1 .1 .high
+part-put-name-end c = c .before .before .before .before .loop .inv .1 .1 .stands .high
 
 sub-put-name-2 : tie.Need-sub-put-name-2 Inv-loop μ-loop
 sub-put-name-2 c = c .before .before .before .name-end .ensures .low
@@ -64,7 +64,7 @@ add-n c =
     let l = c .before .before .before .before .before .before .before .before .before .before .before .loop in
     let s = c .before .before .before .before .before .before .before .before .before .before .before .before .before .before .before in
     let a = s .args in
-    let h = names-count (a .pass) (now (a .input)) (world 0 (now (a .directory)) (now (a .bytes))) (world (l .total) (l .directory) (l .bytes)) (l .n) (l .from) (l .to) (l .start) (l .inv .1 .1) _ (c .before .before .before .before .before .before .before .before .before .name-end .ensures) in
+    let h = names-count (now (a .input)) (l .n) (l .from) (l .to) (l .start) (l .inv .1 .1 .stands) _ (c .before .before .before .before .before .before .before .before .before .name-end .ensures) in
     omega (arith, s .pre .1 .0 .1)
 
 loop-less : tie.Need-loop-less Inv-loop μ-loop

@@ -1,80 +1,78 @@
-use Prim.Native.Nat.{_+_, _*_}
 use mathlib.Core.Path.{subst, sym}
 use denote.Ref.{now}
 use borrow.Author.Needs.{needs}
+use Rattle.block.specs.Block.{spanOf}
 use Rattle.laying.specs.Passes.{World, world, Room}
 use Rattle.writing.proofs.PutLaws.{string-room, char-room, digits-room, digits0-room, string-ran, char-ran, digits-ran, digits0-ran}
 use Rattle.writing.proofs.puts.put_piece.Statement.{statement}
 use Rattle.writing.proofs.puts.put_piece.Tie as tie
 
-mul-first : tie.Need-mul-first
-mul-first c = search needs
-
 enum-known-t : tie.Need-enum-known-t
 enum-known-t c = search needs
 
-add-put-text : tie.Need-add-put-text
-add-put-text c = search needs
+span-of-requires : tie.Need-span-of-requires
+span-of-requires c κs = search needs
 
 put-text-requires : tie.Need-put-text-requires
 put-text-requires c κs =
-    let s = c .before .before .before .before .before .before .before .before in
+    let s = c .before .before .before .before .before .before .before .before .before in
     let a = s .args in
-    let g = c .before .before .before .t .given .1 in
+    let g = c .before .before .before .before .t .given .1 in
     let w = rw g at (s .pre .0 .1) in
-    (w, string-room (a .pass) (now (a .name)) (a .p) (a .t) (world (a .total) (now (a .directory)) (now (a .bytes))) (s .pre .1) g (w .0) (w .1))
+    (w, rw (c .before .before .span-of .ensures) (string-room (a .pass) (now (a .name)) (a .p .0) (a .t) (world (a .total) (now (a .directory)) (now (a .bytes))) (s .pre .1) g (w .0) (w .1)))
 
 enum-known-t-2 : tie.Need-enum-known-t-2
 enum-known-t-2 c = search needs
 
-add-put-byte : tie.Need-add-put-byte
-add-put-byte c = search needs
+span-of-requires-2 : tie.Need-span-of-requires-2
+span-of-requires-2 c κs = search needs
 
 put-byte-requires : tie.Need-put-byte-requires
 put-byte-requires c κs =
-    let s = c .before .before .before .before .before .before .before .before in
+    let s = c .before .before .before .before .before .before .before .before .before in
     let a = s .args in
-    char-room (a .pass) (now (a .name)) (a .p) (a .t) (world (a .total) (now (a .directory)) (now (a .bytes))) (s .pre .1) (c .before .before .before .t2 .given .1)
+    rw (c .before .before .span-of2 .ensures) (char-room (a .pass) (now (a .name)) (a .p .0) (a .t) (world (a .total) (now (a .directory)) (now (a .bytes))) (s .pre .1) (c .before .before .before .before .t2 .given .1))
 
 enum-known-t-3 : tie.Need-enum-known-t-3
 enum-known-t-3 c = search needs
 
-add-put-four : tie.Need-add-put-four
-add-put-four c = search needs
+span-of-requires-3 : tie.Need-span-of-requires-3
+span-of-requires-3 c κs = search needs
 
 put-four-requires : tie.Need-put-four-requires
 put-four-requires c κs =
-    let s = c .before .before .before .before .before .before .before .before in
+    let s = c .before .before .before .before .before .before .before .before .before in
     let a = s .args in
-    digits-room (a .pass) (now (a .name)) (a .p) (a .t) (world (a .total) (now (a .directory)) (now (a .bytes))) (s .pre .1) (c .before .before .before .t3 .given .1)
+    rw (c .before .before .span-of3 .ensures) (digits-room (a .pass) (now (a .name)) (a .p .0) (a .t) (world (a .total) (now (a .directory)) (now (a .bytes))) (s .pre .1) (c .before .before .before .before .t3 .given .1))
 
 enum-known-t-4 : tie.Need-enum-known-t-4
 enum-known-t-4 c = search needs
 
-add-put-four-2 : tie.Need-add-put-four-2
-add-put-four-2 c = search needs
+span-of-requires-4 : tie.Need-span-of-requires-4
+span-of-requires-4 c κs = search needs
 
 put-four-requires-2 : tie.Need-put-four-requires-2
 put-four-requires-2 c κs =
-    let s = c .before .before .before .before .before .before .before .before in
+    let s = c .before .before .before .before .before .before .before .before .before in
     let a = s .args in
-    digits0-room (a .pass) (now (a .name)) (a .p) (a .t) (world (a .total) (now (a .directory)) (now (a .bytes))) (s .pre .1) (c .before .before .before .t4 .given .1) .0
+    rw (c .before .before .span-of4 .ensures) (digits0-room (a .pass) (now (a .name)) (a .p .0) (a .t) (world (a .total) (now (a .directory)) (now (a .bytes))) (s .pre .1) (c .before .before .before .before .t4 .given .1) .0)
 
-add-put-byte-2 : tie.Need-add-put-byte-2
-add-put-byte-2 c = search needs
+span-of-requires-5 : tie.Need-span-of-requires-5
+span-of-requires-5 c κs = search needs
 
 cast-put-byte : tie.Need-cast-put-byte
 cast-put-byte c =
-    let s = c .before .before .before .before .before .before .before .before .before .before .before .before .before .before .before .before in
+    let s = c .before .before .before .before .before .before .before .before .before .before .before .before .before .before .before .before .before .before in
     let a = s .args in
-    record { fits = rw (c .before .before .before .before .before .before .before .before .before .before .before .t4 .given .1) at (s .pre .0 .1) }
+    record { fits = rw (c .before .before .before .before .before .before .before .before .before .before .before .before .before .t4 .given .1) at (s .pre .0 .1) }
 
 put-byte-requires-2 : tie.Need-put-byte-requires-2
 put-byte-requires-2 c κs =
-    let s = c .before .before .before .before .before .before .before .before .before .before .before .before .before .before .before .before in
+    let s = c .before .before .before .before .before .before .before .before .before .before .before .before .before .before .before .before .before .before in
     let a = s .args in
-    subst (λ (w : World). Room (a .pass) (10 * a .p + 4) 1 w) (sym (c .before .before .before .before .before .before .before .put-four2 .ensures))
-    (digits0-room (a .pass) (now (a .name)) (a .p) (a .t) (world (a .total) (now (a .directory)) (now (a .bytes))) (s .pre .1) (c .before .before .before .before .before .before .before .before .before .before .before .t4 .given .1) .1)
+    let d = rw (c .before .before .before .before .before .before .before .before .before .before .before .span-of4 .ensures) at (c .before .before .before .before .before .before .before .before .put-four2 .ensures) in
+    rw (c .before .before .before .span-of5 .ensures)
+    (subst (λ (w : World). Room (a .pass) (spanOf (a .p .0) 4) 1 w) (sym d) (digits0-room (a .pass) (now (a .name)) (a .p .0) (a .t) (world (a .total) (now (a .directory)) (now (a .bytes))) (s .pre .1) (c .before .before .before .before .before .before .before .before .before .before .before .before .before .t4 .given .1) .1))
 
 same-length : tie.Need-same-length
 same-length c = search needs
@@ -84,9 +82,9 @@ same-length-2 c = search needs
 
 returns : tie.Need-returns
 returns c =
-    let s = c .before .before .before .before .before .before .before .before .before .before .before .before .before in
+    let s = c .before .before .before .before .before .before .before .before .before .before .before .before .before .before in
     let a = s .args in
-    string-ran (a .pass) (now (a .name)) (a .p) (a .t) (world (a .total) (now (a .directory)) (now (a .bytes))) _ (c .before .before .before .before .before .before .before .before .t .given .1) (c .before .before .before .before .put-text .ensures)
+    string-ran (a .pass) (now (a .name)) (a .p .0) (a .t) (world (a .total) (now (a .directory)) (now (a .bytes))) _ (c .before .before .before .before .before .before .before .before .before .t .given .1) (rw (← c .before .before .before .before .before .before .before .span-of .ensures) (c .before .before .before .before .put-text .ensures))
 
 same-length-3 : tie.Need-same-length-3
 same-length-3 c = search needs
@@ -96,9 +94,9 @@ same-length-4 c = search needs
 
 returns-2 : tie.Need-returns-2
 returns-2 c =
-    let s = c .before .before .before .before .before .before .before .before .before .before .before .before .before in
+    let s = c .before .before .before .before .before .before .before .before .before .before .before .before .before .before in
     let a = s .args in
-    char-ran (a .pass) (now (a .name)) (a .p) (a .t) (world (a .total) (now (a .directory)) (now (a .bytes))) _ (c .before .before .before .before .before .before .before .before .t2 .given .1) (c .before .before .before .before .put-byte .ensures)
+    char-ran (a .pass) (now (a .name)) (a .p .0) (a .t) (world (a .total) (now (a .directory)) (now (a .bytes))) _ (c .before .before .before .before .before .before .before .before .before .t2 .given .1) (rw (← c .before .before .before .before .before .before .before .span-of2 .ensures) (c .before .before .before .before .put-byte .ensures))
 
 same-length-5 : tie.Need-same-length-5
 same-length-5 c = search needs
@@ -108,9 +106,9 @@ same-length-6 c = search needs
 
 returns-3 : tie.Need-returns-3
 returns-3 c =
-    let s = c .before .before .before .before .before .before .before .before .before .before .before .before .before in
+    let s = c .before .before .before .before .before .before .before .before .before .before .before .before .before .before in
     let a = s .args in
-    digits-ran (a .pass) (now (a .name)) (a .p) (a .t) (world (a .total) (now (a .directory)) (now (a .bytes))) _ (c .before .before .before .before .before .before .before .before .t3 .given .1) (c .before .before .before .before .put-four .ensures)
+    digits-ran (a .pass) (now (a .name)) (a .p .0) (a .t) (world (a .total) (now (a .directory)) (now (a .bytes))) _ (c .before .before .before .before .before .before .before .before .before .t3 .given .1) (rw (← c .before .before .before .before .before .before .before .span-of3 .ensures) (c .before .before .before .before .put-four .ensures))
 
 same-length-7 : tie.Need-same-length-7
 same-length-7 c = search needs
@@ -120,28 +118,27 @@ same-length-8 c = search needs
 
 returns-4 : tie.Need-returns-4
 returns-4 c =
-    let s = c .before .before .before .before .before .before .before .before .before .before .before .before .before .before .before .before .before .before .before .before .before in
+    let s = c .before .before .before .before .before .before .before .before .before .before .before .before .before .before .before .before .before .before .before .before .before .before .before in
     let a = s .args in
-    digits0-ran (a .pass) (now (a .name)) (a .p) (a .t) (world (a .total) (now (a .directory)) (now (a .bytes))) _ (c .before .before .before .before .before .before .before .before .before .before .before .before .before .before .before .before .t4 .given .1) (c .before .before .before .before .before .before .before .before .before .before .before .before .put-four2 .ensures) (c .before .before .before .before .put-byte2 .ensures)
+    digits0-ran (a .pass) (now (a .name)) (a .p .0) (a .t) (world (a .total) (now (a .directory)) (now (a .bytes))) _ (c .before .before .before .before .before .before .before .before .before .before .before .before .before .before .before .before .before .before .t4 .given .1) (rw (c .before .before .before .before .before .before .before .before .before .before .before .before .before .before .before .before .span-of4 .ensures) at (c .before .before .before .before .before .before .before .before .before .before .before .before .before .put-four2 .ensures)) (rw (c .before .before .before .before .before .before .before .before .span-of5 .ensures) at (c .before .before .before .before .put-byte2 .ensures))
 
 pub put-piece-spec : {M : Type 1} → statement M
 put-piece-spec =
     tie.close
     (tie.spec
-    mul-first
     enum-known-t
-    add-put-text
+    span-of-requires
     put-text-requires
     enum-known-t-2
-    add-put-byte
+    span-of-requires-2
     put-byte-requires
     enum-known-t-3
-    add-put-four
+    span-of-requires-3
     put-four-requires
     enum-known-t-4
-    add-put-four-2
+    span-of-requires-4
     put-four-requires-2
-    add-put-byte-2
+    span-of-requires-5
     cast-put-byte
     put-byte-requires-2
     same-length

@@ -75,34 +75,30 @@ loop-again c =
 type-number-requires : tie.Need-type-number-requires Inv-loop μ-loop
 type-number-requires c κs = search needs
 
-cast-put-byte : tie.Need-cast-put-byte Inv-loop μ-loop
-cast-put-byte c = search needs
-
-mul-put-byte : tie.Need-mul-put-byte Inv-loop μ-loop
-mul-put-byte c =
-    let l = c .before .before .before .before .loop in
-    let h : l .p ≤ 128 = l .inv .1 .1 .high in
+span-of-requires : tie.Need-span-of-requires Inv-loop μ-loop
+span-of-requires c κs =
+    let h : c .before .before .loop .p ≤ 128 = c .before .before .loop .inv .1 .1 .high in
     omega arith
 
 put-byte-requires : tie.Need-put-byte-requires Inv-loop μ-loop
 put-byte-requires c κs =
-    let l = c .before .before .before .before .loop in
-    let s = c .before .before .before .before .before .before .before .before .before in
+    let l = c .before .before .before .before .before .loop in
+    let s = c .before .before .before .before .before .before .before .before .before .before in
     let a = s .args in
-    walk-last (a .pass) (now (a .before)) (now (a .name)) (world (a .total) (now (a .directory)) (now (a .bytes))) (world (l .sum) (l .directory) (l .bytes)) (l .p) (l .a) (l .b) (l .inv .1 .1) (c .before .before .before .loop-test .left)
+    rw (c .before .before .span-of .ensures) (walk-last (a .pass) (now (a .before)) (now (a .name)) (world (a .total) (now (a .directory)) (now (a .bytes))) (world (l .sum) (l .directory) (l .bytes)) (l .p) (l .a) (l .b) (l .inv .1 .1) (c .before .before .before .before .loop-test .left))
 
 same-length : tie.Need-same-length Inv-loop μ-loop
-same-length c = c .before .before .before .before .put-byte .kept .1 .1 .0 ∙ c .before .before .before .before .before .before .before .before .before .loop .inv .0
+same-length c = c .before .before .before .before .put-byte .kept .1 .1 .0 ∙ c .before .before .before .before .before .before .before .before .before .before .loop .inv .0
 
 same-length-2 : tie.Need-same-length-2 Inv-loop μ-loop
-same-length-2 c = c .before .before .before .before .put-byte .kept .1 .1 .1 .0 ∙ c .before .before .before .before .before .before .before .before .before .loop .inv .1 .0
+same-length-2 c = c .before .before .before .before .put-byte .kept .1 .1 .1 .0 ∙ c .before .before .before .before .before .before .before .before .before .before .loop .inv .1 .0
 
 returns : tie.Need-returns Inv-loop μ-loop
 returns c =
-    let l = c .before .before .before .before .before .before .before .before .before .loop in
-    let s = c .before .before .before .before .before .before .before .before .before .before .before .before .before .before in
+    let l = c .before .before .before .before .before .before .before .before .before .before .loop in
+    let s = c .before .before .before .before .before .before .before .before .before .before .before .before .before .before .before in
     let a = s .args in
-    walk-end (a .pass) (now (a .before)) (now (a .name)) (world (a .total) (now (a .directory)) (now (a .bytes))) (world (l .sum) (l .directory) (l .bytes)) (l .p) (l .a) (l .b) (l .inv .1 .1) (c .before .before .before .before .before .before .before .before .loop-test .left) (c .before .before .before .before .before .before .before .type-number .ensures) (c .before .before .before .before .put-byte .ensures)
+    walk-end (a .pass) (now (a .before)) (now (a .name)) (world (a .total) (now (a .directory)) (now (a .bytes))) (world (l .sum) (l .directory) (l .bytes)) (l .p) (l .a) (l .b) (l .inv .1 .1) (c .before .before .before .before .before .before .before .before .before .loop-test .left) (c .before .before .before .before .before .before .before .before .type-number .ensures) (rw (← c .before .before .before .before .before .before .before .span-of .ensures) (c .before .before .before .before .put-byte .ensures))
 
 pub put-tokens-spec : {M : Type 1} → statement M
 put-tokens-spec =
@@ -119,8 +115,7 @@ put-tokens-spec =
     loop-less
     loop-again
     type-number-requires
-    cast-put-byte
-    mul-put-byte
+    span-of-requires
     put-byte-requires
     same-length
     same-length-2

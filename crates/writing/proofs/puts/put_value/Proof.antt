@@ -5,9 +5,6 @@ use Rattle.writing.proofs.PutLaws.{itself-room, delta-room, delta0-room
 use Rattle.writing.proofs.puts.put_value.Statement.{statement}
 use Rattle.writing.proofs.puts.put_value.Tie as tie
 
-mul-first : tie.Need-mul-first
-mul-first c = search needs
-
 enum-known-c : tie.Need-enum-known-c
 enum-known-c c = search needs
 
@@ -16,31 +13,31 @@ put-piece-requires c κs =
     let s = c .before .before .before .before .before .before .before .before in
     let a = s .args in
     let g = c .before .before .before .c .given .1 in
-    ((s .pre .0 .0, rw g at (s .pre .0 .1)), itself-room (a .pass) (now (a .name)) (a .p) (a .c) (world (a .total) (now (a .directory)) (now (a .bytes))) (s .pre .1) g)
+    ((s .pre .0 .0, rw g at (s .pre .0 .1)), itself-room (a .pass) (now (a .name)) (a .p .0) (a .c) (world (a .total) (now (a .directory)) (now (a .bytes))) (s .pre .1) g)
 
 enum-known-c-2 : tie.Need-enum-known-c-2
 enum-known-c-2 c = search needs
 
-add-put-byte : tie.Need-add-put-byte
-add-put-byte c = search needs
+span-of-requires : tie.Need-span-of-requires
+span-of-requires c κs = search needs
 
 put-byte-requires : tie.Need-put-byte-requires
 put-byte-requires c κs =
-    let s = c .before .before .before .before .before .before .before .before in
+    let s = c .before .before .before .before .before .before .before .before .before in
     let a = s .args in
-    delta-room (a .pass) (now (a .name)) (a .p) (a .c) (world (a .total) (now (a .directory)) (now (a .bytes))) (s .pre .1) (c .before .before .before .c2 .given .1)
+    rw (c .before .before .span-of .ensures) (delta-room (a .pass) (now (a .name)) (a .p .0) (a .c) (world (a .total) (now (a .directory)) (now (a .bytes))) (s .pre .1) (c .before .before .before .before .c2 .given .1))
 
 enum-known-c-3 : tie.Need-enum-known-c-3
 enum-known-c-3 c = search needs
 
-add-put-byte-2 : tie.Need-add-put-byte-2
-add-put-byte-2 c = search needs
+span-of-requires-2 : tie.Need-span-of-requires-2
+span-of-requires-2 c κs = search needs
 
 put-byte-requires-2 : tie.Need-put-byte-requires-2
 put-byte-requires-2 c κs =
-    let s = c .before .before .before .before .before .before .before .before in
+    let s = c .before .before .before .before .before .before .before .before .before in
     let a = s .args in
-    delta0-room (a .pass) (now (a .name)) (a .p) (a .c) (world (a .total) (now (a .directory)) (now (a .bytes))) (s .pre .1) (c .before .before .before .c3 .given .1)
+    rw (c .before .before .span-of2 .ensures) (delta0-room (a .pass) (now (a .name)) (a .p .0) (a .c) (world (a .total) (now (a .directory)) (now (a .bytes))) (s .pre .1) (c .before .before .before .before .c3 .given .1))
 
 enum-told : tie.Need-enum-told
 enum-told c = search needs
@@ -58,7 +55,7 @@ returns : tie.Need-returns
 returns c =
     let s = c .before .before .before .before .before .before .before .before .before .before .before .before .before in
     let a = s .args in
-    itself-ran (a .pass) (now (a .name)) (a .p) (a .c) (world (a .total) (now (a .directory)) (now (a .bytes))) _ (c .before .before .before .before .before .before .before .before .c .given .1) (c .before .before .before .before .put-piece .ensures)
+    itself-ran (a .pass) (now (a .name)) (a .p .0) (a .c) (world (a .total) (now (a .directory)) (now (a .bytes))) _ (c .before .before .before .before .before .before .before .before .c .given .1) (c .before .before .before .before .put-piece .ensures)
 
 same-length-3 : tie.Need-same-length-3
 same-length-3 c = search needs
@@ -68,9 +65,9 @@ same-length-4 c = search needs
 
 returns-2 : tie.Need-returns-2
 returns-2 c =
-    let s = c .before .before .before .before .before .before .before .before .before .before .before .before .before in
+    let s = c .before .before .before .before .before .before .before .before .before .before .before .before .before .before in
     let a = s .args in
-    delta-ran (a .pass) (now (a .name)) (a .p) (a .c) (world (a .total) (now (a .directory)) (now (a .bytes))) _ (c .before .before .before .before .before .before .before .before .c2 .given .1) (c .before .before .before .before .put-byte .ensures)
+    delta-ran (a .pass) (now (a .name)) (a .p .0) (a .c) (world (a .total) (now (a .directory)) (now (a .bytes))) _ (c .before .before .before .before .before .before .before .before .before .c2 .given .1) (rw (← c .before .before .before .before .before .before .before .span-of .ensures) (c .before .before .before .before .put-byte .ensures))
 
 same-length-5 : tie.Need-same-length-5
 same-length-5 c = search needs
@@ -80,34 +77,33 @@ same-length-6 c = search needs
 
 returns-3 : tie.Need-returns-3
 returns-3 c =
-    let s = c .before .before .before .before .before .before .before .before .before .before .before .before .before in
+    let s = c .before .before .before .before .before .before .before .before .before .before .before .before .before .before in
     let a = s .args in
-    delta0-ran (a .pass) (now (a .name)) (a .p) (a .c) (world (a .total) (now (a .directory)) (now (a .bytes))) _ (c .before .before .before .before .before .before .before .before .c3 .given .1) (c .before .before .before .before .put-byte2 .ensures)
+    delta0-ran (a .pass) (now (a .name)) (a .p .0) (a .c) (world (a .total) (now (a .directory)) (now (a .bytes))) _ (c .before .before .before .before .before .before .before .before .before .c3 .given .1) (rw (← c .before .before .before .before .before .before .before .span-of2 .ensures) (c .before .before .before .before .put-byte2 .ensures))
 
 returns-4 : tie.Need-returns-4
 returns-4 c =
     let s = c .before .before .before .before .before in
     let a = s .args in
-    match-ran (a .pass) (now (a .name)) (a .p) (a .c) (world (a .total) (now (a .directory)) (now (a .bytes))) (c .enum-told .given .1)
+    match-ran (a .pass) (now (a .name)) (a .p .0) (a .c) (world (a .total) (now (a .directory)) (now (a .bytes))) (c .enum-told .given .1)
 
 returns-5 : tie.Need-returns-5
 returns-5 c =
     let s = c .before .before .before .before .before in
     let a = s .args in
-    end-ran (a .pass) (now (a .name)) (a .p) (a .c) (world (a .total) (now (a .directory)) (now (a .bytes))) (c .enum-told2 .given .1)
+    end-ran (a .pass) (now (a .name)) (a .p .0) (a .c) (world (a .total) (now (a .directory)) (now (a .bytes))) (c .enum-told2 .given .1)
 
 pub put-value-spec : {M : Type 1} → statement M
 put-value-spec =
     tie.close
     (tie.spec
-    mul-first
     enum-known-c
     put-piece-requires
     enum-known-c-2
-    add-put-byte
+    span-of-requires
     put-byte-requires
     enum-known-c-3
-    add-put-byte-2
+    span-of-requires-2
     put-byte-requires-2
     enum-told
     enum-told-2

@@ -1,7 +1,7 @@
 use borrow.Author.Needs.{needs}
-use Rattle.writing.specs.NamePuts.{typeNumber}
-use Rattle.writing.proofs.puts.type_number.Statement.{statement}
-use Rattle.writing.proofs.puts.type_number.Tie as tie
+use Rattle.tokens.specs.Types.{typeNumber}
+use Rattle.tokens.proofs.type_number.Statement.{statement}
+use Rattle.tokens.proofs.type_number.Tie as tie
 
 enum-told : tie.Need-enum-told
 enum-told c = search needs
