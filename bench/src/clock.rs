@@ -1,15 +1,24 @@
 //! Times of the processor, taken by turns: what else the machine does counts for nothing, and
 //! what disturbs one thing disturbs what it is compared with.
 
-/// The shortest of some rounds for each of several things, in nanoseconds. The thing to run is
-/// told by its number.
-pub fn shortest<const N: usize>(rounds: u32, mut run: impl FnMut(usize)) -> [f64; N] {
-    let mut best = [f64::INFINITY; N];
+/// Rounds for a small set of names; a large one takes fewer, its times being steadier.
+#[derive(Clone, Copy)]
+pub struct Rounds(pub u32);
+
+impl Rounds {
+    pub fn of(self, count: u32) -> u32 {
+        (self.0.saturating_mul(1_000) / count).max(5)
+    }
+}
+
+/// The shortest of some rounds for each of several things, in nanoseconds.
+pub fn shortest<T: Copy>(rounds: u32, things: &[T], mut run: impl FnMut(T)) -> Vec<f64> {
+    let mut best = vec![f64::INFINITY; things.len()];
     // One round more, which isn't counted: it fills the caches and touches fresh memory.
     for round in 0..=rounds {
-        for (thing, best) in best.iter_mut().enumerate() {
+        for (thing, best) in things.iter().zip(&mut best) {
             let start = processor_time();
-            run(thing);
+            run(*thing);
             let taken = processor_time() - start;
             if round > 0 {
                 *best = best.min(taken as f64);

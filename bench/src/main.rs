@@ -1,67 +1,76 @@
 //! Measurements of the linked library.
 //!
-//! `bench [ROUNDS]` prints the tables of times. `bench one HOLDER CALL TIMES` runs one call over
-//! 1,000 Illumina-like names so many times and nothing else, for a counter of instructions; the
-//! difference between two such runs leaves the setting up out.
+//! `bench` prints the tables of times. `bench one` runs one call of one holder over 1,000
+//! Illumina-like names so many times, prints how many names those are and nothing else, for a
+//! counter of instructions; the difference between two such runs leaves the setting up out. With
+//! a file both are of its names, a name a line. `bench lent` says what is lent in either.
 
 #![deny(unsafe_code)]
 
 mod clock;
+mod figures;
 mod names;
 mod plain;
 mod reference;
 mod tables;
 mod work;
 
-use reference::Reference;
-use second::boundary::Linked;
-use second::calls::Second;
+use clock::Rounds;
+use names::{Names, ILLUMINA};
 use std::process::ExitCode;
-use tables::Rounds;
-use work::{Call, Work, CALLS};
+use work::{by_word, each_block, CALLS, HOLDERS};
 
-const USAGE: &str = "bench [ROUNDS]
-bench one library|second|plain|tok3 'whole block'|'single reads'|claims|writing TIMES";
+const USAGE: &str = "bench lent
+bench [--names FILE] [ROUNDS]
+bench [--names FILE] one library|second|plain|tok3 CALL TIMES
+CALL: 'whole block', 'single reads', claims, 'writing, exact' or 'writing, ample'";
 
 fn main() -> ExitCode {
     let words: Vec<String> = std::env::args().skip(1).collect();
     let words: Vec<&str> = words.iter().map(String::as_str).collect();
-    let ran = match words[..] {
-        [] => all(Rounds(20)),
-        ["one", holder, call, times] => one(holder, call, times),
-        [rounds] => rounds.parse().ok().and_then(|rounds| all(Rounds(rounds))),
-        _ => None,
-    };
-    if ran.is_none() {
-        eprintln!("{USAGE}");
-        return ExitCode::FAILURE;
-    }
-    ExitCode::SUCCESS
-}
-
-fn all(rounds: Rounds) -> Option<()> {
-    tables::against_the_others(rounds);
-    tables::against_a_plain_loop(rounds);
-    tables::growth(rounds);
-    Some(())
-}
-
-/// Nothing if a word isn't known, or if the holder has no such call.
-fn one(holder: &str, call: &str, times: &str) -> Option<()> {
-    let times: u32 = times.parse().ok()?;
-    let (_, call) = CALLS.into_iter().find(|(word, _)| *word == call)?;
-    let mut work = Work::new(names::ILLUMINA.input(1_000));
-    let mut codec = Reference::new(&work.input);
-    let mut run: Box<dyn FnMut()> = match (holder, call) {
-        ("library", _) => Box::new(|| work.run(&Linked, call)),
-        ("second", _) => Box::new(|| work.run(&Second, call)),
-        ("plain", Call::SingleReads) => Box::new(|| tables::judge(&work, plain::without_way_out)),
-        ("tok3", _) => {
-            let (codec, run) = (codec.as_mut()?, reference::against(call)?);
-            Box::new(move || run(codec))
+    match run(&words) {
+        Ok(()) => ExitCode::SUCCESS,
+        Err(said) => {
+            eprintln!("{said}");
+            ExitCode::FAILURE
         }
-        _ => return None,
+    }
+}
+
+fn run(words: &[&str]) -> Result<(), String> {
+    let (names, words) = match words {
+        ["--names", file, rest @ ..] => (Some(Names::of_file(file)?), rest),
+        _ => (None, words),
     };
-    (0..times).for_each(|_| run());
-    Some(())
+    match words {
+        ["one", holder, call, times] => {
+            let names = names.unwrap_or_else(|| ILLUMINA.names(1_000));
+            one(&names, holder, call, number(times)?)
+        }
+        ["lent"] => {
+            println!("{}", tables::LENT);
+            Ok(())
+        }
+        [] => tables::print(names, Rounds(20)),
+        [rounds] => tables::print(names, Rounds(number(rounds)?)),
+        _ => Err(USAGE.to_string()),
+    }
+}
+
+fn number(word: &str) -> Result<u32, String> {
+    word.parse().map_err(|_| USAGE.to_string())
+}
+
+fn one(names: &Names, holder: &str, call: &str, times: u32) -> Result<(), String> {
+    let known = by_word(&HOLDERS, holder).zip(by_word(&CALLS, call));
+    let (holder, call) = known.ok_or(USAGE)?;
+    each_block(names, |work| {
+        if !work.has(holder, call) {
+            return Err("this holder has no such call".to_string());
+        }
+        (0..times).for_each(|_| work.run(holder, call));
+        Ok(())
+    })?;
+    println!("{}", names.count());
+    Ok(())
 }

@@ -1,10 +1,50 @@
-//! Names as instruments give them, made from a seed.
+//! Names: as instruments give them, made from a seed; or those of a file.
 
 use second::cases::random::Random;
+use second::directory::MOST_NAMES;
+use std::path::Path;
+
+/// Names to measure with, as the inputs of blocks: each name ended by byte 10.
+pub struct Names {
+    pub word: String,
+    pub blocks: Vec<Vec<u8>>,
+}
+
+impl Names {
+    fn one_block(word: &str, input: Vec<u8>) -> Names {
+        Names {
+            word: word.to_string(),
+            blocks: vec![input],
+        }
+    }
+
+    /// A name a line, be the last one ended or not; a block is full before the next begins.
+    pub fn of_file(path: &str) -> Result<Names, String> {
+        let mut input = std::fs::read(path).map_err(|error| format!("{path}: {error}"))?;
+        if input.is_empty() {
+            return Err(format!("{path} has no names"));
+        }
+        if !input.ends_with(b"\n") {
+            input.push(b'\n');
+        }
+        let lines: Vec<&[u8]> = input.split_inclusive(|byte| *byte == b'\n').collect();
+        let blocks = lines.chunks(MOST_NAMES as usize);
+        let name = Path::new(path).file_name().unwrap_or_default();
+        Ok(Names {
+            word: name.to_string_lossy().into_owned(),
+            blocks: blocks.map(|block| block.concat()).collect(),
+        })
+    }
+
+    pub fn count(&self) -> usize {
+        let ends = self.blocks.iter().flatten().filter(|byte| **byte == b'\n');
+        ends.count()
+    }
+}
 
 /// A family of names: the name that follows, from what went before.
 pub struct Family {
-    pub word: &'static str,
+    word: &'static str,
     next: fn(&mut Random, &mut [usize; 2]) -> String,
 }
 
@@ -30,8 +70,8 @@ pub const FAMILIES: [Family; 4] = [
 pub const ILLUMINA: &Family = &FAMILIES[0];
 
 impl Family {
-    /// So many names, each ended by byte 10.
-    pub fn input(&self, count: u32) -> Vec<u8> {
+    /// So many names, in one block.
+    pub fn names(&self, count: u32) -> Names {
         let mut random = Random::new(0x6E61_6D65);
         let mut last = [1_000, 1_000];
         let mut input = Vec::new();
@@ -39,7 +79,7 @@ impl Family {
             input.extend((self.next)(&mut random, &mut last).bytes());
             input.push(b'\n');
         }
-        input
+        Names::one_block(self.word, input)
     }
 }
 
@@ -77,7 +117,7 @@ fn random(random: &mut Random, _: &mut [usize; 2]) -> String {
 }
 
 /// Names of so many tokens, a letter and a digit by turns, the digits anything but 0.
-pub fn of_tokens(tokens: usize, count: u32) -> Vec<u8> {
+pub fn of_tokens(tokens: usize, count: u32) -> Names {
     let mut random = Random::new(tokens as u64);
     let mut input = Vec::new();
     for _ in 0..count {
@@ -88,5 +128,5 @@ pub fn of_tokens(tokens: usize, count: u32) -> Vec<u8> {
         input.extend((0..tokens).map(byte));
         input.push(b'\n');
     }
-    input
+    Names::one_block("of tokens", input)
 }

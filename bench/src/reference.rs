@@ -1,22 +1,11 @@
 //! The reference library's name codec, htscodecs' tok3, where it is installed. Its encoding and
 //! decoding include the entropy coder, which the library here leaves to others.
 
-use crate::work::Call;
-
 #[cfg(feature = "tok3")]
 pub use installed::Reference;
 
 #[cfg(not(feature = "tok3"))]
 pub use missing::Reference;
-
-/// Whole-block reading stands against decoding, writing against encoding; the codec has no other call.
-pub fn against(call: Call) -> Option<fn(&mut Reference)> {
-    match call {
-        Call::WholeBlock => Some(Reference::decode),
-        Call::Writing => Some(Reference::encode),
-        Call::SingleReads | Call::Claims => None,
-    }
-}
 
 #[cfg(feature = "tok3")]
 #[allow(unsafe_code)]
@@ -48,42 +37,57 @@ mod installed {
 
     impl Reference {
         pub fn new(input: &[u8]) -> Option<Reference> {
-            let mut reference = Reference {
-                names: input.to_vec(),
-                encoded: Vec::new(),
-            };
-            reference.encode();
-            Some(reference)
+            let mut names = input.to_vec();
+            let encoded = encoded(&mut names).copied();
+            Some(Reference { names, encoded })
         }
 
-        /// The encoder ends names with zero bytes where they lie; it takes those as well as byte 10.
         pub fn encode(&mut self) {
-            let (mut length, mut last) = (0, 0);
-            let names = self.names.as_mut_ptr().cast();
-            let size = self.names.len() as c_int;
-            // SAFETY: the names are `size` bytes that may be written; both numbers are lent.
-            let out = unsafe { tok3_encode_names(names, size, LEVEL, 0, &mut length, &mut last) };
-            self.encoded = taken(out, length as usize);
+            assert_eq!(encoded(&mut self.names).length, self.encoded.len());
         }
 
         pub fn decode(&mut self) {
             let mut length = 0;
             let size = self.encoded.len() as u32;
             // SAFETY: the input is `size` bytes, and the number is lent.
-            let out = unsafe { tok3_decode_names(self.encoded.as_mut_ptr(), size, &mut length) };
-            let decoded = taken(out, length as usize);
-            assert_eq!(decoded.len(), self.names.len());
+            let start = unsafe { tok3_decode_names(self.encoded.as_mut_ptr(), size, &mut length) };
+            let length = length as usize;
+            assert_eq!(Answered::new(start, length).length, self.names.len());
         }
     }
 
-    /// The codec allocates what it answers; the caller frees it.
-    fn taken(memory: *mut u8, length: usize) -> Vec<u8> {
-        assert!(!memory.is_null(), "the reference library refused the names");
-        // SAFETY: the codec answered `length` bytes that are freed here and nowhere else.
-        unsafe {
-            let copy = std::slice::from_raw_parts(memory, length).to_vec();
-            free(memory.cast());
-            copy
+    /// The encoder ends names with zero bytes where they lie; it takes those as well as byte 10.
+    fn encoded(names: &mut [u8]) -> Answered {
+        let (mut length, mut last) = (0, 0);
+        let size = names.len() as c_int;
+        let names = names.as_mut_ptr().cast();
+        // SAFETY: the names are `size` bytes that may be written; both numbers are lent.
+        let start = unsafe { tok3_encode_names(names, size, LEVEL, 0, &mut length, &mut last) };
+        Answered::new(start, length as usize)
+    }
+
+    /// The codec allocates what it answers; it is freed here.
+    struct Answered {
+        start: *mut u8,
+        length: usize,
+    }
+
+    impl Answered {
+        fn new(start: *mut u8, length: usize) -> Answered {
+            assert!(!start.is_null(), "the reference library refused the names");
+            Answered { start, length }
+        }
+
+        fn copied(&self) -> Vec<u8> {
+            // SAFETY: the codec answered `length` bytes, which are freed no sooner than this is dropped.
+            unsafe { std::slice::from_raw_parts(self.start, self.length) }.to_vec()
+        }
+    }
+
+    impl Drop for Answered {
+        fn drop(&mut self) {
+            // SAFETY: what the codec allocated is freed here and nowhere else.
+            unsafe { free(self.start.cast()) }
         }
     }
 }

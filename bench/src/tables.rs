@@ -1,134 +1,155 @@
-//! The tables that a run prints. Times are nanoseconds of the processor, each the shortest of the rounds.
+//! The tables of times that a run prints, and what stands behind a figure.
 
-use crate::clock::shortest;
-use crate::names::{of_tokens, FAMILIES, ILLUMINA};
-use crate::plain;
-use crate::reference::{against, Reference};
-use crate::work::{Call, Work, CALLS};
-use second::boundary::Linked;
-use second::calls::{Calls, Second};
+use crate::clock::Rounds;
+use crate::figures::Figures;
+use crate::names::{of_tokens, Names, FAMILIES, ILLUMINA};
+use crate::work::{Call, Holder, WritingRoom, CALLS};
 use second::directory::MOST_NAMES;
-use std::hint::black_box;
 
-/// The holders by their place in a comparison.
-const SIDES: [&dyn Calls; 2] = [&Linked, &Second];
+/// For every figure, be it a time or instructions.
+pub const LENT: &str = "\
+Library and second program are lent the same buffers. None is cleared between rounds: a round writes over what the
+one before it left there.
+Reading is lent the block's bytes and no more, as many bytes of text as the input has, five numbers a name, and five
+for each byte of a name, which are as many rows as there can be. Single reads: an opening, a read a name, and the one
+that says done. Claims: each name once, as it is, out of order.
+Writing, exact, is lent as many bytes as it fills; writing, ample, six for each byte of the input, which suffice for
+any names, so that nobody counts first. tok3 makes its own room, and its entropy coding is included.
+Names of a file are taken in blocks of at most 65,536, and what the blocks take is added up.";
 
-/// Rounds for a small set of names; a large one takes fewer, its times being steadier.
-#[derive(Clone, Copy)]
-pub struct Rounds(pub u32);
+const TIMES: &str = "
+Times are the processor's nanoseconds, each the shortest of its rounds, after one that isn't counted. What stands in
+one line is taken by turns, and a figure that stands in several tables is one measurement.
+";
 
-impl Rounds {
-    fn of(self, count: u32) -> u32 {
-        (self.0 * 1_000 / count).max(5)
-    }
-}
-
-/// Library against second program and reference library, every call over every family.
-pub fn against_the_others(rounds: Rounds) {
-    println!("Time a name, and the library's as a ratio to the others' in the same run");
+pub fn print(names: Option<Names>, rounds: Rounds) -> Result<(), String> {
+    println!("{TIMES}");
+    println!("Time a name, and the library's as a ratio to the others'");
     println!(
-        "{:14} {:>6}  {:12} {:>9} {:>9} {:>6} {:>9} {:>6}",
+        "{:14} {:>8}  {:14} {:>9} {:>9} {:>6} {:>9} {:>6}",
         "names", "count", "call", "library", "second", "ratio", "tok3", "ratio"
     );
-    for family in &FAMILIES {
-        for count in [1_000, MOST_NAMES] {
-            let mut work = Work::new(family.input(count));
-            let mut reference = Reference::new(&work.input);
-            for (word, call) in CALLS {
-                let both = shortest(rounds.of(count), |side| work.run(SIDES[side], call));
-                let [library, other] = both.map(|time| time / f64::from(count));
-                print!("{:14} {count:>6}  {word:12} ", family.word);
-                print!("{library:>9.1} {other:>9.1} {:>6.2} ", library / other);
-                let time = codec(&mut reference, call, rounds.of(count));
-                println!(
-                    "{}",
-                    beside(library, time.map(|time| time / f64::from(count)))
-                );
+    match names {
+        Some(names) => against_a_plain_loop(&against_the_others(&names, rounds)?),
+        None => {
+            let mut compared = Vec::new();
+            for family in &FAMILIES {
+                for count in [1_000, MOST_NAMES] {
+                    compared.push(against_the_others(&family.names(count), rounds)?);
+                }
             }
+            let [small, large, ..] = &compared[..] else {
+                unreachable!("two of the first family")
+            };
+            against_a_plain_loop(small);
+            growth(small, large, rounds)?;
         }
     }
+    Ok(())
 }
 
-fn codec(reference: &mut Option<Reference>, call: Call, rounds: u32) -> Option<f64> {
-    let (reference, run) = (reference.as_mut()?, against(call)?);
-    let [time] = shortest(rounds, |_| run(reference));
-    Some(time)
-}
-
-fn beside(library: f64, codec: Option<f64>) -> String {
-    codec.map_or_else(
-        || format!("{:>9} {:>6}", "-", "-"),
-        |codec| format!("{codec:>9.1} {:>6.2}", library / codec),
-    )
+/// Library against second program and reference library, every call.
+fn against_the_others(names: &Names, rounds: Rounds) -> Result<Figures, String> {
+    let figures = Figures::of(names, rounds)?;
+    for (word, call) in CALLS {
+        let cell = |holder| {
+            let ratio = of_library(&figures, call, holder);
+            format!("{} {}", time(&figures, call, holder), ratio_cell(ratio))
+        };
+        println!(
+            "{:14} {:>8}  {word:14} {} {} {}",
+            figures.word,
+            figures.count,
+            time(&figures, call, Holder::Library),
+            cell(Holder::Second),
+            cell(Holder::Tok3)
+        );
+    }
+    Ok(figures)
 }
 
 /// A single read against the judging pass alone, as a plain loop over the same tables.
-pub fn against_a_plain_loop(rounds: Rounds) {
-    let count = 1_000;
-    let mut work = Work::new(ILLUMINA.input(count));
-    let [reads, without, with] = shortest(rounds.of(count), |thing| match thing {
-        0 => work.run(&Linked, Call::SingleReads),
-        1 => judge(&work, plain::without_way_out),
-        _ => judge(&work, plain::with_way_out),
-    });
-    println!("\nOne read, and a plain loop over the same 1,290 spans and cursors");
-    let each = |time: f64| time / f64::from(count);
-    println!("{:32} {:>9.1}", "single read", each(reads));
-    for (word, time) in [("no early way out", without), ("early way out", with)] {
+fn against_a_plain_loop(figures: &Figures) {
+    let call = Call::SingleReads;
+    println!("\nOne read, and a plain loop with the same comparisons of the same 1,290 spans and cursors");
+    println!("{}, {} names", figures.word, figures.count);
+    let read = time(figures, call, Holder::Library);
+    println!("{:32} {read}", "single read");
+    for (word, holder) in [
+        ("no early way out", Holder::Plain),
+        ("early way out", Holder::PlainWithWayOut),
+    ] {
         let name = format!("plain loop, {word}");
-        println!(
-            "{name:32} {:>9.1}  read/loop {:.2}",
-            each(time),
-            reads / time
-        );
+        let ratio = ratio_cell(of_library(figures, call, holder));
+        let time = time(figures, call, holder);
+        println!("{name:32} {time}  read/loop {}", ratio.trim_start());
     }
 }
 
-/// The loop once for each name, which the compiler may not fold into one.
-pub fn judge(work: &Work, judge: fn(usize, &[u32], &[u32]) -> bool) {
-    for _ in 0..work.count {
-        let (bytes, directory, cursors) = black_box(work.tables());
-        assert!(black_box(judge(bytes, directory, cursors)));
-    }
+fn time(figures: &Figures, call: Call, holder: Holder) -> String {
+    let time = figures.a_name(call, holder);
+    time.map_or_else(|| format!("{:>9}", "-"), |time| format!("{time:>9.1}"))
+}
+
+fn of_library(figures: &Figures, call: Call, holder: Holder) -> Option<f64> {
+    let library = figures.a_name(call, Holder::Library)?;
+    Some(library / figures.a_name(call, holder)?)
+}
+
+fn ratio_cell(ratio: Option<f64>) -> String {
+    ratio.map_or_else(|| format!("{:>6}", "-"), |ratio| format!("{ratio:>6.2}"))
 }
 
 /// How the library's time grows with names and with tokens.
-pub fn growth(rounds: Rounds) {
+fn growth(small: &Figures, large: &Figures, rounds: Rounds) -> Result<(), String> {
     println!(
         "\nHow cost grows with names (Illumina-like): time a name, and its ratio to the first line"
     );
-    let counts = [1_000, 4_000, 16_000, MOST_NAMES];
-    let works = counts.map(|count| (count, Work::new(ILLUMINA.input(count))));
-    grow("names", works, rounds, |work| work.count);
+    let between = [4_000, 16_000].map(|count| Figures::of(&ILLUMINA.names(count), rounds));
+    let [fewer, more] = between;
+    let (fewer, more) = (fewer?, more?);
+    let lines = [small, &fewer, &more, large].map(|figures| (figures.count, figures));
+    let a_name = |figures: &Figures, call| {
+        let time = figures.a_name(call, Holder::Library);
+        time.expect("the library has every call")
+    };
+    grow("names", lines, a_name);
+
     println!(
         "\nHow cost grows with tokens (1,000 names): time a token, and its ratio to the first line"
     );
-    let tokens = [2, 8, 32, 126];
-    let works = tokens.map(|tokens| (tokens as u32, Work::new(of_tokens(tokens, 1_000))));
-    grow("tokens", works, rounds, Work::tokens);
+    let mut of = Vec::new();
+    for tokens in [2, 8, 32, 126] {
+        of.push((tokens, Figures::of(&of_tokens(tokens, 1_000), rounds)?));
+    }
+    let lines = of.iter().map(|(tokens, figures)| (*tokens, figures));
+    grow("tokens", lines, Figures::a_token);
+    Ok(())
 }
 
-fn grow<const N: usize>(
+fn grow<'a>(
     word: &str,
-    works: [(u32, Work); N],
-    rounds: Rounds,
-    units: fn(&Work) -> u32,
+    lines: impl IntoIterator<Item = (usize, &'a Figures)>,
+    each: impl Fn(&Figures, Call) -> f64,
 ) {
-    let shown = [Call::WholeBlock, Call::SingleReads, Call::Writing];
-    println!(
-        "{word:>8} {:>12} {:>6} {:>12} {:>6} {:>12} {:>6}",
-        "whole block", "ratio", "single reads", "ratio", "writing", "ratio"
-    );
+    let shown = [
+        Call::WholeBlock,
+        Call::SingleReads,
+        Call::Writing(WritingRoom::Exact),
+        Call::Writing(WritingRoom::Ample),
+    ];
+    let words = CALLS.iter().filter(|(_, call)| shown.contains(call));
+    let heads: Vec<String> = words
+        .map(|(word, _)| format!("{word:>14} {:>6}", "ratio"))
+        .collect();
+    println!("{word:>8} {}", heads.join(" "));
     let mut first = None;
-    for (label, mut work) in works {
-        let each = f64::from(units(&work));
-        let rounds = rounds.of(work.count);
-        let times: [f64; 3] = shortest(rounds, |thing| work.run(&Linked, shown[thing]));
-        let times = times.map(|time| time / each);
+    for (label, figures) in lines {
+        let times = shown.map(|call| each(figures, call));
         let base = *first.get_or_insert(times);
         let cells = times.iter().zip(base);
         let cells: Vec<String> = cells
-            .map(|(time, base)| format!("{time:>12.1} {:>6.2}", time / base))
+            .map(|(time, base)| format!("{time:>14.1} {:>6.2}", time / base))
             .collect();
         println!("{label:>8} {}", cells.join(" "));
     }

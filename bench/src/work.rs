@@ -1,73 +1,169 @@
-//! The memory for one set of names, and each thing that is measured over it.
+//! The memory for one block of names, and each thing that is measured over it.
 
+use crate::names::Names;
+use crate::plain::{self, Verdict};
+use crate::reference::Reference;
+use second::boundary::Linked;
 use second::calls::{Calls, Second};
 use second::cases::script::Packed;
+use second::directory::MOST_NAMES;
 use second::kept::FIVE;
 use second::memory::{self, Memory, Room};
 use second::refusal::{unpack, DONE};
+use std::hint::black_box;
 
 /// What is measured, each once for every name.
-#[derive(Clone, Copy, Debug, PartialEq, Eq)]
+#[derive(Clone, Copy, Debug, PartialEq, Eq, Hash)]
 pub enum Call {
     WholeBlock,
     SingleReads,
     Claims,
-    Writing,
+    Writing(WritingRoom),
 }
 
-pub const CALLS: [(&str, Call); 4] = [
+/// The bytes that writing is lent: as many as it fills, or as many as suffice for any names.
+#[derive(Clone, Copy, Debug, PartialEq, Eq, Hash)]
+pub enum WritingRoom {
+    Exact,
+    Ample,
+}
+
+pub const CALLS: [(&str, Call); 5] = [
     ("whole block", Call::WholeBlock),
     ("single reads", Call::SingleReads),
     ("claims", Call::Claims),
-    ("writing", Call::Writing),
+    ("writing, exact", Call::Writing(WritingRoom::Exact)),
+    ("writing, ample", Call::Writing(WritingRoom::Ample)),
 ];
 
+/// Whose call it is. The two plain loops stand beside single reads.
+#[derive(Clone, Copy, Debug, PartialEq, Eq, Hash)]
+pub enum Holder {
+    Library,
+    Second,
+    Plain,
+    PlainWithWayOut,
+    Tok3,
+}
+
+pub const HOLDERS: [(&str, Holder); 5] = [
+    ("library", Holder::Library),
+    ("second", Holder::Second),
+    ("plain", Holder::Plain),
+    ("plain with a way out", Holder::PlainWithWayOut),
+    ("tok3", Holder::Tok3),
+];
+
+pub fn by_word<T: Copy>(words: &[(&str, T)], word: &str) -> Option<T> {
+    let found = words.iter().find(|(known, _)| *known == word);
+    found.map(|(_, thing)| *thing)
+}
+
+/// Something with one block after the other, so that only one at a time takes memory.
+pub fn each_block(
+    names: &Names,
+    mut run: impl FnMut(&mut Work) -> Result<(), String>,
+) -> Result<(), String> {
+    for (number, input) in names.blocks.iter().enumerate() {
+        let mut work = Work::new(input.clone()).map_err(|(code, name)| {
+            let line = number * MOST_NAMES as usize + name as usize + 1;
+            format!("{}, line {line}: refused {code}", names.word)
+        })?;
+        run(&mut work)?;
+    }
+    Ok(())
+}
+
 pub struct Work {
-    pub input: Vec<u8>,
+    input: Vec<u8>,
     pub count: u32,
     names: Vec<(usize, usize)>,
     /// The block, and what reading it keeps.
     block: Memory,
-    /// Writing goes here and not into the block that is read.
-    written: Memory,
+    /// Writing goes to one of these and not into the block that is read.
+    exact: Memory,
+    ample: Memory,
     writing: memory::Call,
+    codec: Option<Reference>,
 }
 
-/// A step with which claims go through the names out of order; it is prime.
-const STRIDE: u32 = 40_961;
+/// A step with which claims go through the names out of order, and meet each once: both are prime,
+/// and one isn't the count.
+const fn stride(count: u32) -> u32 {
+    match count {
+        40_961 => 40_949,
+        _ => 40_961,
+    }
+}
 
 impl Work {
-    pub fn new(input: Vec<u8>) -> Work {
+    /// A refusal's number and name where these names can't be written.
+    fn new(input: Vec<u8>) -> Result<Work, (u32, u32)> {
         let writing = memory::Call::Write {
             input: input.clone(),
         };
-        let mut written = Memory::to_write(6 * input.len(), 0);
-        written.run(&Second, &writing);
-        let [count, total] = written.total_numbers();
+        let mut ample = Memory::to_write(6 * input.len(), 0);
+        let (code, value) = unpack(ample.run(&Linked, &writing));
+        if code != 0 {
+            return Err((code, value));
+        }
+        let [count, total] = ample.total_numbers();
         let block = Packed {
-            bytes: written.bytes.get()[..total as usize].to_vec(),
-            directory: written.directory.get().to_vec(),
+            bytes: ample.bytes.get()[..total as usize].to_vec(),
+            directory: ample.directory.get().to_vec(),
             count,
         };
         let mut work = Work {
             block: Memory::new(&block, room(&input, count as usize)),
             names: places(&input),
+            codec: Reference::new(&input),
             input,
             count,
-            written,
+            exact: Memory::to_write(total as usize, 0),
+            ample,
             writing,
         };
-        // Claims and growth look at what is kept.
-        work.run(&Second, Call::WholeBlock);
-        work
+        // Claims and the count of tokens look at what is kept.
+        work.run(Holder::Library, Call::WholeBlock);
+        Ok(work)
     }
 
-    pub fn run(&mut self, calls: &dyn Calls, call: Call) {
+    /// Whole-block reading stands against the codec's decoding and writing against its encoding,
+    /// once, since it makes its own room.
+    pub fn has(&self, holder: Holder, call: Call) -> bool {
+        match holder {
+            Holder::Library | Holder::Second => true,
+            Holder::Plain | Holder::PlainWithWayOut => call == Call::SingleReads,
+            Holder::Tok3 => {
+                let there = [Call::WholeBlock, Call::Writing(WritingRoom::Ample)];
+                self.codec.is_some() && there.contains(&call)
+            }
+        }
+    }
+
+    /// Runs what `has` says is there.
+    pub fn run(&mut self, holder: Holder, call: Call) {
+        match holder {
+            Holder::Library => self.call(&Linked, call),
+            Holder::Second => self.call(&Second, call),
+            Holder::Plain => self.judge(plain::without_way_out),
+            Holder::PlainWithWayOut => self.judge(plain::with_way_out),
+            Holder::Tok3 => {
+                let codec = self.codec.as_mut().expect("the codec is here");
+                match call {
+                    Call::WholeBlock => codec.decode(),
+                    _ => codec.encode(),
+                }
+            }
+        }
+    }
+
+    fn call(&mut self, calls: &dyn Calls, call: Call) {
         match call {
             Call::WholeBlock => self.read_block(calls),
             Call::SingleReads => self.single_reads(calls),
             Call::Claims => self.claims(calls),
-            Call::Writing => self.write(calls),
+            Call::Writing(room) => self.write(calls, room),
         }
     }
 
@@ -87,24 +183,33 @@ impl Work {
 
     fn claims(&self, calls: &dyn Calls) {
         let kept = self.block.to_claim();
+        let stride = stride(self.count);
         for turn in 0..self.count {
-            let number = turn.wrapping_mul(STRIDE) % self.count;
+            let number = turn.wrapping_mul(stride) % self.count;
             let (start, end) = self.names[number as usize];
             let answer = calls.claim(number, &self.input[start..end], kept);
             assert_eq!(unpack(answer), (0, 1));
         }
     }
 
-    fn write(&mut self, calls: &dyn Calls) {
-        let answer = self.written.run(calls, &self.writing);
-        assert_eq!(unpack(answer), (0, self.written.total_numbers()[1]));
+    fn write(&mut self, calls: &dyn Calls, room: WritingRoom) {
+        let written = match room {
+            WritingRoom::Exact => &mut self.exact,
+            WritingRoom::Ample => &mut self.ample,
+        };
+        let answer = written.run(calls, &self.writing);
+        assert_eq!(unpack(answer), (0, self.block.bytes.get().len() as u32));
     }
 
-    /// What a single read judges: the bytes' length, the directory and the cursors.
-    pub fn tables(&self) -> (usize, &[u32], &[u32]) {
+    /// What a single read judges, once for each name, which the compiler may not fold into one.
+    fn judge(&self, judge: fn(usize, &[u32], &[u32]) -> Verdict) {
         let block = &self.block;
-        let bytes = block.bytes.get().len();
-        (bytes, block.directory.get(), block.cursors.get())
+        for _ in 0..self.count {
+            let bytes = black_box(block.bytes.get().len());
+            let (directory, cursors) = black_box((block.directory.get(), block.cursors.get()));
+            let verdict = black_box(judge(bytes, directory, cursors));
+            assert_eq!(verdict, Verdict::Inside);
+        }
     }
 
     pub fn tokens(&self) -> u32 {

@@ -2,3 +2,4 @@ pub mod Choice
 pub mod Every
 pub mod Memory
 pub mod Same
+pub mod Lent

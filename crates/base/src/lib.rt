@@ -6,11 +6,12 @@ ghost use Prim.Native.Nat.{_≤_, _+_, _-_};
 ghost use lib.ListN.{length};
 ghost use Rattle.base.specs.Memory.{written, part};
 ghost use Rattle.base.specs.Same.{same};
+ghost use Rattle.base.specs.Lent.{lent, left};
 
 // One byte at a place.
 pub fn put_byte(buf: &mut [u8], at: usize, b: u8)
     requires { ⌜ at + 1 ≤ length (now buf) ⌝ }
-    ensures { λ _. ⌜ now (buf .exit) ≡ written (now (buf .entry)) at (b ∷ []) ⌝ }
+    ensures { λ _. ⌜ left buf ≡ written (lent buf) at (b ∷ []) ⌝ }
 {
     buf[at] = b;
 }
@@ -18,15 +19,15 @@ pub fn put_byte(buf: &mut [u8], at: usize, b: u8)
 // One number at a place.
 pub fn put_number(table: &mut [u32], at: usize, n: u32)
     requires { ⌜ at + 1 ≤ length (now table) ⌝ }
-    ensures { λ _. ⌜ now (table .exit) ≡ written (now (table .entry)) at (n ∷ []) ⌝ }
+    ensures { λ _. ⌜ left table ≡ written (lent table) at (n ∷ []) ⌝ }
 {
     table[at] = n;
 }
 
-// Five numbers at a place: an entry or a row.
+// Five numbers at a place.
 pub fn put_five(table: &mut [u32], at: usize, a: u32, b: u32, c: u32, d: u32, e: u32)
     requires { ⌜ at + 5 ≤ length (now table) ⌝ }
-    ensures { λ _. ⌜ now (table .exit) ≡ written (now (table .entry)) at (a ∷ b ∷ c ∷ d ∷ e ∷ []) ⌝ }
+    ensures { λ _. ⌜ left table ≡ written (lent table) at (a ∷ b ∷ c ∷ d ∷ e ∷ []) ⌝ }
 {
     table[at] = a;
     table[at + 1] = b;
@@ -38,7 +39,7 @@ pub fn put_five(table: &mut [u32], at: usize, a: u32, b: u32, c: u32, d: u32, e:
 // A part of one buffer at a place of another.
 pub fn copy_at(src: &[u8], from: usize, to: usize, dst: &mut [u8], at: usize)
     requires { ⌜ (from ≤ to) × ((to ≤ length (now src)) × (at + (to - from) ≤ length (now dst))) ⌝ }
-    ensures { λ _. ⌜ now (dst .exit) ≡ written (now (dst .entry)) at (part (now (src .entry)) from to) ⌝ }
+    ensures { λ _. ⌜ left dst ≡ written (lent dst) at (part (lent src) from to) ⌝ }
 {
     let n = to - from;
     let mut j: usize = 0;
@@ -51,7 +52,7 @@ pub fn copy_at(src: &[u8], from: usize, to: usize, dst: &mut [u8], at: usize)
 // A part of a buffer at a later place of the same buffer.
 pub fn copy_within(buf: &mut [u8], from: usize, to: usize, at: usize)
     requires { ⌜ (from ≤ to) × ((to ≤ at) × (at + (to - from) ≤ length (now buf))) ⌝ }
-    ensures { λ _. ⌜ now (buf .exit) ≡ written (now (buf .entry)) at (part (now (buf .entry)) from to) ⌝ }
+    ensures { λ _. ⌜ left buf ≡ written (lent buf) at (part (lent buf) from to) ⌝ }
 {
     let n = to - from;
     let mut j: usize = 0;
@@ -65,7 +66,7 @@ pub fn copy_within(buf: &mut [u8], from: usize, to: usize, at: usize)
 // follow each other differ. From there on there is no way out: texts that come so far are mostly the same, and a loop
 // without one takes many bytes at once.
 pub fn same(a: &[u8], b: &[u8]) -> bool
-    ensures { λ r. ⌜ r ≡ same (now (a .entry)) (now (b .entry)) ⌝ }
+    ensures { λ r. ⌜ r ≡ same (lent a) (lent b) ⌝ }
 {
     if a.len() != b.len() {
         return false;

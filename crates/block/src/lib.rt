@@ -5,6 +5,7 @@ ghost use Prim.Native.Nat.{ℕ, _≤_, _<_, _+_, _*_, _^_};
 ghost use lib.Dec.{leb};
 ghost use lib.ListN.{length};
 ghost use Rattle.block.specs.Block.{spanOf, endOf, cursorOf, soundFrom, sound, allInside, verdict, verdictOf, allAtEnd, starts, opening, openOf};
+ghost use Rattle.base.specs.Lent.{lent, left};
 use spans::Cursor;
 use spans::Position;
 
@@ -49,21 +50,21 @@ pub fn span_of(p: Position, stream: u32) -> usize
 
 pub fn end_of(dir: &[u32], span: usize) -> Cursor
     requires { ⌜ (length (now dir) ≡ 2580) × (span < 1290) ⌝ }
-    ensures { λ r. ⌜ r .0 ≡ endOf (now (dir .entry)) span ⌝ }
+    ensures { λ r. ⌜ r .0 ≡ endOf (lent dir) span ⌝ }
 {
     Cursor(dir[2 * span + 1])
 }
 
 pub fn cursor_of(cursors: &[u32], span: usize) -> Cursor
     requires { ⌜ (length (now cursors) ≡ 1290) × (span < 1290) ⌝ }
-    ensures { λ r. ⌜ r .0 ≡ cursorOf (now (cursors .entry)) span ⌝ }
+    ensures { λ r. ⌜ r .0 ≡ cursorOf (lent cursors) span ⌝ }
 {
     Cursor(cursors[span])
 }
 
 // An end has 32 bits, and numbers of one width are judged faster.
 fn reach(bytes: &[u8]) -> u32
-    ensures { λ r. ⌜ ((end : ℕ) → end < 2 ^ 32 → leb end r ≡ leb end (length (now (bytes .entry)))) ⌝ }
+    ensures { λ r. ⌜ ((end : ℕ) → end < 2 ^ 32 → leb end r ≡ leb end (length (lent bytes))) ⌝ }
 {
     let n = bytes.len();
     if n < 4294967295 { n as u32 } else { 4294967295 }
@@ -72,7 +73,7 @@ fn reach(bytes: &[u8]) -> u32
 // No way out inside the loop, here and below, so that several spans are judged at a time.
 fn spans_sound(n: u32, dir: &[u32]) -> bool
     requires { ⌜ length (now dir) ≡ 2580 ⌝ }
-    ensures { λ r. ⌜ r ≡ soundFrom n (now (dir .entry)) 0 1290 ⌝ }
+    ensures { λ r. ⌜ r ≡ soundFrom n (lent dir) 0 1290 ⌝ }
 {
     let mut ok = true;
     let mut i: usize = 0;
@@ -87,7 +88,7 @@ fn spans_sound(n: u32, dir: &[u32]) -> bool
 
 // Refusal 1 is given where this is false.
 fn sound(bytes: &[u8], dir: &[u32], cursors: &[u32]) -> bool
-    ensures { λ r. ⌜ r ≡ sound (length (now (bytes .entry))) (now (dir .entry)) (now (cursors .entry)) ⌝ }
+    ensures { λ r. ⌜ r ≡ sound (length (lent bytes)) (lent dir) (lent cursors) ⌝ }
 {
     if dir.len() != Block::DIRECTORY {
         return false;
@@ -101,7 +102,7 @@ fn sound(bytes: &[u8], dir: &[u32], cursors: &[u32]) -> bool
 // Both in one pass over each table.
 fn judge_spans(n: u32, dir: &[u32], cursors: &[u32]) -> Verdict
     requires { ⌜ (length (now dir) ≡ 2580) × (length (now cursors) ≡ 1290) ⌝ }
-    ensures { λ r. ⌜ r ≡ verdict (soundFrom n (now (dir .entry)) 0 1290) (allInside (now (dir .entry)) (now (cursors .entry))) ⌝ }
+    ensures { λ r. ⌜ r ≡ verdict (soundFrom n (lent dir) 0 1290) (allInside (lent dir) (lent cursors)) ⌝ }
 {
     let mut sound = true;
     let mut inside = true;
@@ -126,7 +127,7 @@ fn judge_spans(n: u32, dir: &[u32], cursors: &[u32]) -> Verdict
 
 // Refusals 1 and 13, in this order.
 pub fn judge(bytes: &[u8], dir: &[u32], cursors: &[u32]) -> Verdict
-    ensures { λ r. ⌜ r ≡ verdictOf (length (now (bytes .entry))) (now (dir .entry)) (now (cursors .entry)) ⌝ }
+    ensures { λ r. ⌜ r ≡ verdictOf (length (lent bytes)) (lent dir) (lent cursors) ⌝ }
 {
     if dir.len() != Block::DIRECTORY {
         return Verdict::Unsound;
@@ -140,7 +141,7 @@ pub fn judge(bytes: &[u8], dir: &[u32], cursors: &[u32]) -> Verdict
 // With all names read, "done" where this is true and refusal 10 where not.
 pub fn at_end(dir: &[u32], cursors: &[u32]) -> bool
     requires { ⌜ (length (now dir) ≡ 2580) × (length (now cursors) ≡ 1290) ⌝ }
-    ensures { λ r. ⌜ r ≡ allAtEnd (now (dir .entry)) (now (cursors .entry)) ⌝ }
+    ensures { λ r. ⌜ r ≡ allAtEnd (lent dir) (lent cursors) ⌝ }
 {
     let mut ok = true;
     let mut i: usize = 0;
@@ -155,7 +156,7 @@ pub fn at_end(dir: &[u32], cursors: &[u32]) -> bool
 
 fn set_starts(dir: &[u32], cursors: &mut [u32])
     requires { ⌜ (length (now dir) ≡ 2580) × (length (now cursors) ≡ 1290) ⌝ }
-    ensures { λ _. ⌜ now (cursors .exit) ≡ starts (now (dir .entry)) ⌝ }
+    ensures { λ _. ⌜ left cursors ≡ starts (lent dir) ⌝ }
 {
     let mut i: usize = 0;
     while i < Block::SPANS {
@@ -181,7 +182,7 @@ impl Block {
     pub const DIRECTORY: usize = 2580;
 
     pub fn open(self, bytes: &[u8], dir: &[u32], cursors: &mut [u32]) -> Opened
-        ensures { λ r. ⌜ opening r (now (cursors .exit)) ≡ openOf (length (now (bytes .entry))) (now (dir .entry)) (self .count) (now (cursors .entry)) ⌝ }
+        ensures { λ r. ⌜ opening r (left cursors) ≡ openOf (length (lent bytes)) (lent dir) (self .count) (lent cursors) ⌝ }
     {
         let count = self.count;
         if !sound(bytes, dir, cursors) {

@@ -12,25 +12,26 @@ use Rattle.base.proofs.Equal.{same-equal, equal-same, same-differ, differ-same}
 use Rattle.block.specs.declared.State.{State}
 use Rattle.block.specs.declared.Refusal.the-variants as refusal
 use Rattle.kept.specs.declared.Entry.{Entry}
-use Rattle.kept.specs.Tables.{room, entryAt}
+use Rattle.kept.specs.Tables.{entrySize, room, entryAt}
 use Rattle.kept.specs.Judgement.{textCounts, entryText}
 use Rattle.kept.specs.Inside.{TextCounted, TextInside}
 use Rattle.kept.proofs.Laws.{text-counted, text-counts-of, text-inside, entry-text-of}
 use Rattle.claims.specs.declared.Verdict.{Verdict}
 use Rattle.claims.specs.declared.Verdict.the-variants.{Confirmed, Denied, Refused}
 use Rattle.claims.specs.Claims.{nameText, claimOf}
+use Rattle.claims.specs.Causes.{Answerable, wholeName, Cause, counts-outside, not-kept, text-outside, differs, agrees}
 
 module _ (number : ℕ) (claim : List ℕ) (s : State) (text names : List ℕ) where
   -- by the tests, in their order
-  pub unsound : textCounts s (length text) (room names) ≡ false → Refused (refusal.Plain 13) ≡ claimOf number claim s text names
+  pub unsound : textCounts s (length text) (room entrySize names) ≡ false → Refused (refusal.Plain 13) ≡ claimOf number claim s text names
   unfolding claimOf
   unsound a = left _ _ a refl
 
-  pub unread : textCounts s (length text) (room names) ≡ true → s .names ≤ number → Refused (refusal.At 11 number) ≡ claimOf number claim s text names
+  pub unread : textCounts s (length text) (room entrySize names) ≡ true → s .names ≤ number → Refused (refusal.At 11 number) ≡ claimOf number claim s text names
   unfolding claimOf
   unread a b = took _ _ a (left _ _ (le-ltb _ _ b) refl)
 
-  module _ (a : textCounts s (length text) (room names) ≡ true) (b : number < s .names) {e : Entry} (is : e ≡ entryAt names number) where
+  module _ (a : textCounts s (length text) (room entrySize names) ≡ true) (b : number < s .names) {e : Entry} (is : e ≡ entryAt names number) where
     pub outside : entryText s e ≡ false → Refused (refusal.At 13 number) ≡ claimOf number claim s text names
     unfolding claimOf
     outside c = rw (← is) (took _ _ a (took _ _ (lt-ltb _ _ b) (left _ _ c refl)))
@@ -43,29 +44,11 @@ module _ (number : ℕ) (claim : List ℕ) (s : State) (text names : List ℕ) w
     unfolding claimOf
     unequal c d = rw (← is) (took _ _ a (took _ _ (lt-ltb _ _ b) (took _ _ c (left _ _ d refl))))
 
-  -- the counts fit, the name is kept, and its text lies inside
-  pub record Answerable : Type 0 where
-    pub counts : TextCounted s text names
-    pub below : number < s .names
-    pub inside : TextInside s (entryAt names number)
-
-  -- an answer with its cause
-  pub data Cause : Verdict → Type 0 where
-    counts-outside : (TextCounted s text names → ⊥) → Cause (Refused (refusal.Plain 13))
-    not-kept : TextCounted s text names → s .names ≤ number → Cause (Refused (refusal.At 11 number))
-    text-outside : TextCounted s text names → number < s .names → (TextInside s (entryAt names number) → ⊥) → Cause (Refused (refusal.At 13 number))
-    differs : Answerable → (claim ≡ nameText text (entryAt names number) → ⊥) → Cause Denied
-    agrees : Answerable → claim ≡ nameText text (entryAt names number) → Cause Confirmed
-
-  -- all of the bytes of the name claimed
-  abbrev wholeName : List ℕ
-  wholeName = nameText text (entryAt names number)
-
   -- from each cause its answer
-  pub confirmed-of : Answerable → claim ≡ wholeName → claimOf number claim s text names ≡ Confirmed
+  pub confirmed-of : Answerable number s text names → claim ≡ wholeName number text names → claimOf number claim s text names ≡ Confirmed
   confirmed-of t e = sym (equal (text-counts-of s text names (t .counts)) (t .below) refl (entry-text-of _ _ (t .inside)) (equal-same _ _ e))
 
-  pub denied-of : Answerable → (claim ≡ wholeName → ⊥) → claimOf number claim s text names ≡ Denied
+  pub denied-of : Answerable number s text names → (claim ≡ wholeName number text names → ⊥) → claimOf number claim s text names ≡ Denied
   denied-of t n = sym (unequal (text-counts-of s text names (t .counts)) (t .below) refl (entry-text-of _ _ (t .inside)) (same-differ _ _ n))
 
   pub eleven-of : TextCounted s text names → s .names ≤ number → claimOf number claim s text names ≡ Refused (refusal.At 11 number)
@@ -78,44 +61,44 @@ module _ (number : ℕ) (claim : List ℕ) (s : State) (text names : List ℕ) w
   thirteen-of n = sym (unsound (fails (λ e. n (text-counted s text names e))))
 
   -- every claim has an answer with its cause
-  pub cause : Cause (claimOf number claim s text names)
+  pub cause : Cause number claim s text names (claimOf number claim s text names)
   cause =
-      by-test (textCounts s (length text) (room names))
+      by-test (textCounts s (length text) (room entrySize names))
       (λ a. by-test (ltb number (s .names))
       (λ b. by-test (entryText s (entryAt names number))
       (λ c.
-      let t : Answerable = record { counts = text-counted s text names a; below = ltb-true _ _ b; inside = text-inside _ _ c } in
-      by-test (same claim wholeName)
-      (λ d. subst (λ (v : Verdict). Cause v) (equal a (ltb-true _ _ b) refl c d) (agrees t (same-equal _ _ d)))
-      (λ d. subst (λ (v : Verdict). Cause v) (unequal a (ltb-true _ _ b) refl c d) (differs t (differ-same _ _ d))))
-      (λ c. subst (λ (v : Verdict). Cause v) (outside a (ltb-true _ _ b) refl c)
+      let t : Answerable number s text names = record { counts = text-counted s text names a; below = ltb-true _ _ b; inside = text-inside _ _ c } in
+      by-test (same claim (wholeName number text names))
+      (λ d. subst (Cause number claim s text names) (equal a (ltb-true _ _ b) refl c d) (agrees t (same-equal _ _ d)))
+      (λ d. subst (Cause number claim s text names) (unequal a (ltb-true _ _ b) refl c d) (differs t (differ-same _ _ d))))
+      (λ c. subst (Cause number claim s text names) (outside a (ltb-true _ _ b) refl c)
       (text-outside (text-counted s text names a) (ltb-true _ _ b) (λ i. never (sym c ∙ entry-text-of _ _ i)))))
-      (λ b. subst (λ (v : Verdict). Cause v) (unread a (ltb-false _ _ b)) (not-kept (text-counted s text names a) (ltb-false _ _ b))))
-      (λ a. subst (λ (v : Verdict). Cause v) (unsound a) (counts-outside (λ t. never (sym a ∙ text-counts-of s text names t))))
+      (λ b. subst (Cause number claim s text names) (unread a (ltb-false _ _ b)) (not-kept (text-counted s text names a) (ltb-false _ _ b))))
+      (λ a. subst (Cause number claim s text names) (unsound a) (counts-outside (λ t. never (sym a ∙ text-counts-of s text names t))))
 
   -- from each answer its cause
-  of-confirmed : Cause Confirmed → Answerable × (claim ≡ wholeName)
+  of-confirmed : Cause number claim s text names Confirmed → Answerable number s text names × (claim ≡ wholeName number text names)
   of-confirmed (agrees t e) = (t, e)
 
-  of-denied : Cause Denied → Answerable × (claim ≡ wholeName → ⊥)
+  of-denied : Cause number claim s text names Denied → Answerable number s text names × (claim ≡ wholeName number text names → ⊥)
   of-denied (differs t n) = (t, n)
 
-  of-eleven : Cause (Refused (refusal.At 11 number)) → TextCounted s text names × (s .names ≤ number)
+  of-eleven : Cause number claim s text names (Refused (refusal.At 11 number)) → TextCounted s text names × (s .names ≤ number)
   of-eleven (not-kept t h) = (t, h)
 
-  of-thirteen-at : Cause (Refused (refusal.At 13 number)) → TextCounted s text names × ((number < s .names) × (TextInside s (entryAt names number) → ⊥))
+  of-thirteen-at : Cause number claim s text names (Refused (refusal.At 13 number)) → TextCounted s text names × ((number < s .names) × (TextInside s (entryAt names number) → ⊥))
   of-thirteen-at (text-outside t h n) = (t, (h, n))
 
-  of-thirteen : Cause (Refused (refusal.Plain 13)) → TextCounted s text names → ⊥
+  of-thirteen : Cause number claim s text names (Refused (refusal.Plain 13)) → TextCounted s text names → ⊥
   of-thirteen (counts-outside n) = n
 
-  caused : {v : Verdict} → claimOf number claim s text names ≡ v → Cause v
-  caused q = subst (λ (v : Verdict). Cause v) q cause
+  caused : {v : Verdict} → claimOf number claim s text names ≡ v → Cause number claim s text names v
+  caused q = subst (Cause number claim s text names) q cause
 
-  pub confirmed : claimOf number claim s text names ≡ Confirmed → Answerable × (claim ≡ wholeName)
+  pub confirmed : claimOf number claim s text names ≡ Confirmed → Answerable number s text names × (claim ≡ wholeName number text names)
   confirmed q = of-confirmed (caused q)
 
-  pub denied : claimOf number claim s text names ≡ Denied → Answerable × (claim ≡ wholeName → ⊥)
+  pub denied : claimOf number claim s text names ≡ Denied → Answerable number s text names × (claim ≡ wholeName number text names → ⊥)
   denied q = of-denied (caused q)
 
   pub eleven : claimOf number claim s text names ≡ Refused (refusal.At 11 number) → TextCounted s text names × (s .names ≤ number)

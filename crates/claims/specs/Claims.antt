@@ -9,7 +9,7 @@ use Rattle.base.specs.Memory.{part}
 use Rattle.block.specs.declared.State.{State}
 use Rattle.block.specs.declared.Refusal.the-variants as refusal
 use Rattle.kept.specs.declared.Entry.{Entry}
-use Rattle.kept.specs.Tables.{room, entryAt}
+use Rattle.kept.specs.Tables.{entrySize, room, entryAt}
 use Rattle.kept.specs.Judgement.{textCounts, entryText}
 use Rattle.claims.specs.declared.Verdict.{Verdict}
 use Rattle.claims.specs.declared.Verdict.the-variants.{Confirmed, Denied, Refused}
@@ -21,7 +21,7 @@ nameText text e = part text (e .start) (e .start + e .length)
 -- confirmed if its bytes are all of that name's bytes and nothing else, denied otherwise
 unfoldable pub claimOf : ℕ → List ℕ → State → List ℕ → List ℕ → Verdict
 claimOf number claim s text names =
-    pick (textCounts s (length text) (room names))
+    pick (textCounts s (length text) (room entrySize names))
     (pick (ltb number (s .names))
     (pick (entryText s (entryAt names number))
     (pick (same claim (nameText text (entryAt names number))) Confirmed Denied)

@@ -2,6 +2,7 @@
 // A claim is handed no row table, judges nothing about rows and changes nothing.
 ghost use mathlib.Core.Path.{_≡_};
 ghost use Rattle.claims.specs.Claims.{claimOf};
+ghost use Rattle.base.specs.Lent.{lent};
 use block::Refusal;
 use block::State;
 use kept::judgement;
@@ -14,7 +15,7 @@ pub enum Verdict {
 }
 
 pub fn claim(number: u32, claimed: &[u8], state: State, text: &[u8], names: &[u32]) -> Verdict
-    ensures { λ r. ⌜ r ≡ claimOf number (now (claimed .entry)) state (now (text .entry)) (now (names .entry)) ⌝ }
+    ensures { λ r. ⌜ r ≡ claimOf number (lent claimed) state (lent text) (lent names) ⌝ }
 {
     if !judgement::text_counts(state, text.len(), names.len()) {
         return Verdict::Refused(Refusal::Plain(13));

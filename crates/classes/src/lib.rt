@@ -8,6 +8,7 @@ ghost use lib.ListN.{length};
 ghost use Rattle.base.specs.Choice.{both};
 ghost use Rattle.base.specs.Memory.{part};
 ghost use Rattle.classes.specs.Classes.{isAllowed, classOf, classTable, allAllowed};
+ghost use Rattle.base.specs.Lent.{lent};
 
 mod entries;
 
@@ -40,7 +41,7 @@ pub fn class(b: u8) -> u8
 // Every byte of a part is one that SAM allows.
 pub fn allowed(table: &[u8; 256], bytes: &[u8], from: usize, to: usize) -> bool
     requires { ⌜ (now table ≡ classTable) × ((from ≤ to) × (to ≤ length (now bytes))) ⌝ }
-    ensures { λ r. ⌜ r ≡ allAllowed (part (now (bytes .entry)) from to) ⌝ }
+    ensures { λ r. ⌜ r ≡ allAllowed (part (lent bytes) from to) ⌝ }
 {
     let mut i = from;
     while i < to {
@@ -72,7 +73,7 @@ pub fn is_allowed(b: u8) -> bool
 // Every byte of a part is one that SAM allows, by comparison.
 pub fn all_allowed(bytes: &[u8], from: usize, to: usize) -> bool
     requires { ⌜ (from ≤ to) × (to ≤ length (now bytes)) ⌝ }
-    ensures { λ r. ⌜ r ≡ allAllowed (part (now (bytes .entry)) from to) ⌝ }
+    ensures { λ r. ⌜ r ≡ allAllowed (part (lent bytes) from to) ⌝ }
 {
     let mut i = from;
     while i < to {

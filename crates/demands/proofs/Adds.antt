@@ -3,10 +3,12 @@ use Prim.Native.Nat.{ℕ}
 use mathlib.Core.Path.{_≡_, subst}
 use native.Mathlib.Omega.{arith}
 use Rattle.kept.specs.Tables.{Kept}
-use Rattle.steps.specs.Source.{Source}
-use Rattle.reading.specs.declared.Answer.the-variants as answer
-use Rattle.reading.specs.Reads.{Outcome, kept, readOf}
-use Rattle.reading.proofs.Holding.{Holds}
+use Rattle.sources.specs.Source.{Source}
+use Rattle.entries.specs.declared.Answer.the-variants as answer
+use Rattle.entries.specs.Outcomes.{Outcome}
+use Rattle.entries.specs.Entries.{kept}
+use Rattle.reads.specs.Reads.{readOf}
+use Rattle.reads.proofs.Holding.{Holds}
 use Rattle.demands.specs.Adds.{Adds}
 use Rattle.demands.specs.Refusals.{Ready, ReadCase, refuses, ends, keeps}
 use Rattle.demands.proofs.Lemmas.Ways.{read-case, ready-holds}

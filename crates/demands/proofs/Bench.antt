@@ -15,12 +15,26 @@ use Rattle.tokens.specs.Types.{typeOf}
 use Rattle.tokens.specs.Tokens.{bytesOf, kindOf, numberOf, widthOf, lengthOf, rowOf}
 use Rattle.kept.specs.Tables.{room, entryAt, rowAt}
 use Rattle.kept.specs.Judgement.{entryText, entryRows, rowKind, rowFits, rowsFit, earlierFits}
-use Rattle.steps.specs.Source.{byteIn, fourIn}
-use Rattle.steps.specs.Steps.{charStep, paddedStep, widthStep, digits0Step, deltaStep, delta0Step, hasRow, matchAt, valueStep, carries, barred, typedStep, stepAt}
-use Rattle.names.specs.Names.{past, typeIn, valuePast, grown, ended, printable, onward, nameFrom, nameOf}
-use Rattle.reading.specs.Reads.{atName, dupHead, diffHead, typedHead, headOf, roomFor, kept, keepOf, headPast, dupOf, namedOf, diffOf, none, entryBack, headedOf, nextOf}
-use Rattle.splitting.specs.Split.{runClass, runEnd, runLimit, runAt, cutAt, textPiece, numberPiece, pieceAt}
-use Rattle.splitting.specs.Choices.{riseOf, byRise, leanDigits, lean, choiceAt, choicesFrom, choicesOf, anew, leansOn}
+use Rattle.sources.specs.Source.{byteIn, fourIn}
+use Rattle.values.specs.Values.{charStep, withWidth, paddedOf, paddedStep, digits0Step}
+use Rattle.sums.specs.Sums.{deltaStep, delta0Step}
+use Rattle.repeats.specs.Repeats.{hasRow, matchAt}
+use Rattle.steps.specs.Steps.{valueStep, typedStep, stepAt}
+use Rattle.bars.specs.Bars.{carries, barred}
+use Rattle.moving.specs.Moves.{past, valuePast}
+use Rattle.names.specs.Names.{typeIn, grown, ended, printable, onward, nameFrom, nameOf}
+use Rattle.entries.specs.Outcomes.{atName}
+use Rattle.heads.specs.Heads.{dupHead, diffHead, typedHead, headOf, headPast}
+use Rattle.entries.specs.Entries.{roomFor, kept, keepOf}
+use Rattle.copying.specs.Copies.{dupOf}
+use Rattle.naming.specs.Naming.{namedOf, diffOf}
+use Rattle.earlier.specs.Back.{none, entryBack}
+use Rattle.inner.specs.Next.{headedOf, nextOf}
+use Rattle.splitting.specs.Split.{runClass, runEnd, runLimit, runAt, cutAt}
+use Rattle.pieces.specs.Pieces.{textPiece, numberPiece, pieceAt}
+use Rattle.rises.specs.Rises.{riseOf}
+use Rattle.choices.specs.Choices.{byRise, leanDigits, lean, choiceAt, choicesFrom, choicesOf}
+use Rattle.references.specs.References.{anew, leansOn}
 use Rattle.demands.specs.Bench.{refusedAt, typed, cases, tokenCases, blockCases, writingCases}
 use Rattle.demands.specs.Runs.{left}
 use Rattle.demands.specs.Cases.{Case, Hold, shown, Stream, bytesIn, dirFrom, inDirectory, Told, told, readOver}
@@ -47,7 +61,7 @@ four-of : {A : Type 0} {a b c d e f g h : A} → a ≡ b → c ≡ d → e ≡ f
 four-of p q r s = λ i. (p i, q i, r i, s i)
 
 tokens-hold : Hold tokenCases
-unfolding pick low padded countWithin digitCount printed fitsWidth bytesOf paddedStep widthStep digits0Step deltaStep delta0Step shown
+unfolding pick low padded countWithin digitCount printed fitsWidth bytesOf withWidth paddedOf paddedStep digits0Step deltaStep delta0Step shown
 tokens-hold = (refl, (refl, (refl, (refl, (refl, tt)))))
 
 blocks-hold : Hold blockCases

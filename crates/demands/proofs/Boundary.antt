@@ -13,25 +13,28 @@ use Rattle.block.specs.declared.Refusal.{Refusal}
 use Rattle.block.specs.declared.Opened.the-variants as opened
 use Rattle.block.specs.Block.{Opening, opening, openOf, starts, state}
 use Rattle.kept.specs.Tables.{Kept, keeping}
-use Rattle.steps.specs.Source.{Source, source}
-use Rattle.reading.specs.declared.Answer.{Answer}
-use Rattle.reading.specs.declared.Answer.the-variants as answer
-use Rattle.reading.specs.Reads.{Outcome, outcome, kept, readOf}
+use Rattle.sources.specs.Source.{Source, source}
+use Rattle.entries.specs.declared.Answer.{Answer}
+use Rattle.entries.specs.declared.Answer.the-variants as answer
+use Rattle.entries.specs.Outcomes.{Outcome, outcome}
+use Rattle.entries.specs.Entries.{kept}
+use Rattle.reads.specs.Reads.{readOf}
 use Rattle.reading.specs.Blocks.{openedOf, blockOf}
 use Rattle.writing.specs.declared.WriteAnswer.{WriteAnswer}
 use Rattle.writing.specs.declared.WriteAnswer.the-variants as written
 use Rattle.writing.specs.Writes.{Writing, writeOf}
-use Rattle.aqsurvel.specs.Answers.{packed, refusalNumber, openedNumber, readNumber, verdictNumber, writtenNumber, stateIn, stateOut}
-use Rattle.aqsurvel.specs.Calls.{Opens, opens, openedState, opensOf, openCall, Reads, reads, readsOf, readCall, blockCall, claimCall, Writes, writes, writtenTotals, writesOf, writeCall}
+use Rattle.answers.specs.Answers.{packed, refusalNumber, openedNumber, readNumber, verdictNumber, writtenNumber, stateIn, stateOut}
+use Rattle.calls.specs.Calls.{Opens, opens, openedState, opensOf, openCall, Reads, reads, readsOf, readCall, blockCall, claimCall, Writes, writes, writtenTotals, writesOf, writeCall}
 use Rattle.demands.specs.Runs as runs
 use Rattle.demands.specs.Runs.{Lent, lent, read, left, Keeps, Call, reading, claiming, after, run, claimed, nameAt}
 use Rattle.demands.specs.Refusals as cases
 use Rattle.demands.specs.Refusals.{OpenCase, WriteCase, Why, ReadCase, refuses, ends, keeps}
 use Rattle.demands.specs.Right.{Judged, Demand3}
 use Rattle.demands.specs.Boundary.{Stopped, begun, lentFrom, callOn, callsOn, KeepCalls, no-call, next-call, WholeCall, claimOn, JudgedCall, Demand3Call}
+use Rattle.demands.specs.Untouched.{Whole}
 use Rattle.demands.proofs.Lemmas.Ways.{read-case}
 use Rattle.demands.proofs.Refusals.{open-case, write-case, by-reason}
-use Rattle.demands.proofs.Untouched.{Whole, block-reads}
+use Rattle.demands.proofs.Untouched.{block-reads}
 use Rattle.demands.proofs.Unwritten.{write-refused}
 use Rattle.demands.proofs.Demand3.{read-or-not, plain-reads, demand-3, block-demand-3}
 use Rattle.demands.proofs.Contracts.{one-outcome}
@@ -256,7 +259,7 @@ module _ (bytes dir : List ℕ) (count : ℕ) (cur text names rows st : List ℕ
   four = ap (λ (o : Opening). length (opensOf st o .state)) accepts
 
   -- a whole-block read leaves what opening and the reads before the last did
-  pub block-call-reads : WholeCall bytes dir start block
+  pub block-call-reads : WholeCall bytes dir (begun (openCall bytes dir count cur st) text names rows) (blockCall bytes dir count cur text names rows st)
   unfolding blockCall callOn readCall lentFrom read
   block-call-reads =
       let w : Whole bytes dir first (blockOf (source bytes dir cur) (keeping (stateIn st) text names rows) count) = block-reads _ _ count _ _ accepts in
@@ -282,14 +285,16 @@ module _ (bytes dir : List ℕ) (count : ℕ) (cur text names rows st : List ℕ
       }
 
   -- demand 3: any sequence of reads and claims, refused ones too
-  pub calls-demand-3 : (calls : List Call) → Demand3Call bytes dir (lentFrom start) (callsOn bytes dir start calls)
+  pub calls-demand-3 : (calls : List Call)
+      → Demand3Call bytes dir (lentFrom (begun (openCall bytes dir count cur st) text names rows)) (callsOn bytes dir (begun (openCall bytes dir count cur st) text names rows) calls)
   calls-demand-3 calls =
       demand-3-call bytes dir (lentFrom start) _ _ (calls-run bytes dir calls start)
       (demand-3 bytes dir count (lentFrom start)
       (record { old = cur; state = state count 0 0 0; opens = rw lends accepts; begins = ap (λ (l : Lent). l .kept .state) lends }) calls)
 
   -- and from a whole-block read on
-  pub block-calls-demand-3 : (calls : List Call) → Demand3Call bytes dir (lentFrom start) (callsOn bytes dir block calls)
+  pub block-calls-demand-3 : (calls : List Call)
+      → Demand3Call bytes dir (lentFrom (begun (openCall bytes dir count cur st) text names rows)) (callsOn bytes dir (blockCall bytes dir count cur text names rows st) calls)
   unfolding blockCall readsOf lentFrom left stateIn stateOut
   block-calls-demand-3 calls =
       demand-3-call bytes dir (lentFrom start) _ _ (calls-run bytes dir calls block)

@@ -9,18 +9,19 @@ use Rattle.block.specs.declared.State.{State}
 use Rattle.block.specs.declared.Opened.the-variants as opened
 use Rattle.block.specs.Block.{Opening, opening, openOf}
 use Rattle.kept.specs.Tables.{Kept, keeping}
-use Rattle.steps.specs.Source.{Source}
-use Rattle.reading.specs.declared.Answer.the-variants as answer
-use Rattle.reading.specs.Reads.{Outcome, readOf}
+use Rattle.sources.specs.Source.{Source}
+use Rattle.entries.specs.declared.Answer.the-variants as answer
+use Rattle.entries.specs.Outcomes.{Outcome}
+use Rattle.reads.specs.Reads.{readOf}
 use Rattle.reading.specs.Blocks.{blockOf}
 use Rattle.claims.specs.declared.Verdict.{Verdict}
 use Rattle.claims.specs.Claims.{claimOf}
-use Rattle.writing.specs.declared.WriteAnswer.the-variants as written
 use Rattle.writing.specs.Writes.{Writing, writeOf}
 use Rattle.demands.specs.Runs.{Lent, lent, left, Fresh, Call, after, run}
 use Rattle.demands.specs.Right.{Demand3}
 use Rattle.demands.specs.Traces.{Seen, nothing, a-read, a-claim}
-use Rattle.demands.proofs.Untouched.{Untouched, read-refused, open-refused, Whole, block-refused, block-reads}
+use Rattle.demands.specs.Untouched.{Untouched, Whole, Unwritten}
+use Rattle.demands.proofs.Untouched.{read-refused, open-refused, block-refused, block-reads}
 use Rattle.demands.proofs.Unwritten.{write-refused}
 use Rattle.demands.proofs.Demand3.{demand-3, block-demand-3}
 
@@ -53,10 +54,8 @@ opening-untouched len dir count cur o e =
 pub read-untouched : (s : Source) (m : Kept) (o : Outcome) → o ≡ readOf s m → (r : Refusal) → o .answer ≡ answer.Refused r → Untouched s m o
 read-untouched s m o e = subst (λ (x : Outcome). (r : Refusal) → x .answer ≡ answer.Refused r → Untouched s m x) (sym e) (read-refused s m)
 
-pub writing-untouched : (input dir bytes : List ℕ) (w : Writing) → w ≡ writeOf input dir bytes → (r : Refusal) → w .answer ≡ written.Refused r
-    → (w .directory ≡ dir) × (w .bytes ≡ bytes)
-writing-untouched input dir bytes w e =
-    subst (λ (x : Writing). (r : Refusal) → x .answer ≡ written.Refused r → (x .directory ≡ dir) × (x .bytes ≡ bytes)) (sym e) (write-refused input dir bytes)
+pub writing-untouched : (input dir bytes : List ℕ) (w : Writing) → w ≡ writeOf input dir bytes → Unwritten dir bytes w
+writing-untouched input dir bytes w e = subst (Unwritten dir bytes) (sym e) (write-refused input dir bytes)
 
 pub block-untouched : (s : Source) (m : Kept) (count : ℕ) (o : Outcome) → o ≡ blockOf s m count
     → (r : Refusal) → openOf (length (s .bytes)) (s .dir) count (s .cur) .answer ≡ opened.Refused r → (o .answer ≡ answer.Refused r) × Untouched s m o

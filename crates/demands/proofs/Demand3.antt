@@ -16,22 +16,26 @@ use Rattle.kept.specs.Tables.{Kept, keeping, entryAt}
 use Rattle.kept.specs.Inside.{TextCounted}
 use Rattle.kept.proofs.Laws.{counts-text, counts-of, earlier-fits-of}
 use Rattle.kept.proofs.Later.{Later, later-same, later-then, entry-later}
-use Rattle.steps.specs.Source.{Source, source}
-use Rattle.reading.specs.declared.Answer.the-variants as answer
-use Rattle.reading.specs.Reads.{Outcome, kept, readOf}
+use Rattle.sources.specs.Source.{Source, source}
+use Rattle.entries.specs.declared.Answer.the-variants as answer
+use Rattle.entries.specs.Outcomes.{Outcome}
+use Rattle.entries.specs.Entries.{kept}
+use Rattle.reads.specs.Reads.{readOf}
 use Rattle.reading.specs.Blocks.{blockOf}
 use Rattle.claims.specs.declared.Verdict.the-variants.{Refused}
 use Rattle.claims.specs.Claims.{nameText}
-use Rattle.claims.proofs.Laws.{Answerable, confirmed-of, denied-of, eleven-of, confirmed, thirteen, thirteen-at}
+use Rattle.claims.specs.Causes.{Answerable}
+use Rattle.claims.proofs.Laws.{confirmed-of, denied-of, eleven-of, confirmed, thirteen, thirteen-at}
 use Rattle.demands.specs.Runs.{Lent, lent, read, left, Reads, Keeps, none, next, Fresh, Call, reading, claiming, after, run, claimed, nameAt}
 use Rattle.demands.specs.Right.{Demand3, Right, NameRight, Judged, Sane, left-over, by-rules}
 use Rattle.demands.specs.Refusals.{Why, unsound, uncounted, outside, unread, unnamed, ReadCase, refuses, ends, keeps}
+use Rattle.demands.specs.Untouched.{Whole}
 use Rattle.demands.proofs.Refusals.{read-why, by-reason}
 use Rattle.demands.proofs.Lemmas.Ways.{read-case}
 use Rattle.demands.proofs.Lemmas.Keeping.{Sure, sure-right, fresh-sure, after-sure}
 use Rattle.demands.proofs.Lemmas.Later.{later-adds, text-later}
 use Rattle.demands.proofs.Adds.{read-adds}
-use Rattle.demands.proofs.Untouched.{Whole, block-reads}
+use Rattle.demands.proofs.Untouched.{block-reads}
 
 run-sure : (bytes dir : List ℕ) (cs : List Call) (l : Lent) → Sure bytes dir l → Sure bytes dir (run bytes dir l cs)
 unfolding run
@@ -48,7 +52,7 @@ unfolding claimed nameAt
 right-judged bytes dir l r number claim =
     let m : Kept = l .kept in
     let c : TextCounted (m .state) (m .text) (m .names) = counts-text m (r .counts) in
-    let a : number < m .state .names → Answerable number claim (m .state) (m .text) (m .names) =
+    let a : number < m .state .names → Answerable number (m .state) (m .text) (m .names) =
     λ h. record { counts = c; below = h; inside = r .names number h .text } in
     record {
       confirmed = λ h e. confirmed-of number claim (m .state) (m .text) (m .names) (a h) e;

@@ -2,7 +2,6 @@
 use Prim.Native.Nat.{ℕ, _<_}
 use mathlib.Core.Path.{_≡_, refl, sym, _∙_}
 use mathlib.Core.Bool.{true}
-use mathlib.Core.List.{List}
 use native.Mathlib.Omega.{arith}
 use borrow.Author.Tests.{eq-eqb}
 use lib.ListN.{length}
@@ -10,18 +9,18 @@ use Rattle.base.proofs.Choice.{pick-true, pick-false, by-test}
 use Rattle.block.specs.declared.Refusal.the-variants as refusal
 use Rattle.block.specs.Block.{sound, allAtEnd, startOf, endOf, cursorOf, starts, state}
 use Rattle.block.proofs.Laws.{at-end-each, each-at-end, opens-fresh, starts-cursor}
-use Rattle.kept.specs.Tables.{Kept, keeping}
-use Rattle.steps.specs.Source.{Source, source}
-use Rattle.reading.specs.declared.Answer.{Answer}
-use Rattle.reading.specs.declared.Answer.the-variants as answer
-use Rattle.reading.specs.Reads.{Outcome, outcome, plain, kept, nextOf, readOf}
-use Rattle.reading.specs.Blocks.{goOn, readsFrom, openedOf, blockOf}
+use Rattle.kept.specs.Tables.{Kept}
+use Rattle.sources.specs.Source.{Source, source}
+use Rattle.entries.specs.declared.Answer.{Answer}
+use Rattle.entries.specs.declared.Answer.the-variants as answer
+use Rattle.entries.specs.Outcomes.{Outcome, outcome, plain}
+use Rattle.entries.specs.Entries.{kept}
+use Rattle.inner.specs.Next.{nextOf}
+use Rattle.reads.specs.Reads.{readOf, goOn, readsFrom}
+use Rattle.reading.specs.Blocks.{openedOf, blockOf}
 use Rattle.demands.specs.Refusals.{Ready, ReadCase, refuses, ends, keeps}
+use Rattle.demands.specs.Done.{AtEnd, no-names}
 use Rattle.demands.proofs.Lemmas.Ways.{ready-reads, read-case, fresh-ready}
-
--- every cursor is at its end
-abbrev pub AtEnd : List ℕ → List ℕ → Type 0
-AtEnd dir cur = (j : ℕ) → j < 1290 → cursorOf cur j ≡ endOf dir j
 
 done-way : (s : Source) (m : Kept) (o : Outcome) → ReadCase s m o → o .answer ≡ answer.Done → (m .state .names ≡ m .state .count) × AtEnd (s .dir) (s .cur)
 unfolding kept
@@ -51,10 +50,6 @@ unfolding goOn
 the-last o (answer.Kept n) = refl
 the-last o answer.Done = refl
 the-last o (answer.Refused r) = refl
-
--- what is kept once a block of no names has opened
-abbrev pub no-names : Kept → Kept
-no-names m = keeping (state 0 0 0 0) (m .text) (m .names) (m .rows)
 
 module _ (s : Source) (m : Kept) (sounds : sound (length (s .bytes)) (s .dir) (s .cur) ≡ true) where
   -- a block of no names is opened and read once

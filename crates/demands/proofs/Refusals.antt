@@ -17,19 +17,28 @@ use Rattle.block.specs.declared.Refusal.{Refusal}
 use Rattle.block.specs.declared.Refusal.the-variants as refusal
 use Rattle.block.specs.Block.{Opening, openOf, sound}
 use Rattle.block.proofs.Laws.{opens-unsound, opens-many, opens-fresh}
+use Rattle.block.specs.Streams.{dupStream, diffStream}
 use Rattle.kept.specs.Tables.{Kept}
 use Rattle.kept.specs.Judgement.{earlierFits}
 use Rattle.kept.proofs.Laws.{earlier-fits-of}
-use Rattle.steps.specs.Source.{Source, Earlier}
+use Rattle.tokens.specs.Types.{dupNumber, diffNumber}
+use Rattle.sources.specs.Source.{Source, Earlier}
 use Rattle.names.specs.Names.{Draft}
-use Rattle.reading.specs.declared.Answer.the-variants as answer
-use Rattle.reading.specs.declared.Head.the-variants as head
-use Rattle.reading.specs.Reads.{Outcome, outcome, plain, atName, kept, dupFits, diffFits, dupHead, diffHead, typedHead, headOf, keepOf, dupOf, namedOf, diffOf, entryBack, headedOf, nextOf, readOf}
+use Rattle.entries.specs.declared.Answer.the-variants as answer
+use Rattle.heads.specs.declared.Head.the-variants as head
+use Rattle.entries.specs.Outcomes.{Outcome, outcome, plain, atName}
+use Rattle.entries.specs.Entries.{kept, keepOf}
+use Rattle.heads.specs.Heads.{dupFits, diffFits, dupHead, diffHead, typedHead, headOf}
+use Rattle.copying.specs.Copies.{dupOf}
+use Rattle.naming.specs.Naming.{namedOf, diffOf}
+use Rattle.earlier.specs.Back.{entryBack}
+use Rattle.inner.specs.Next.{headedOf, nextOf}
+use Rattle.reads.specs.Reads.{readOf}
 use Rattle.laying.specs.Puts.{totalOf}
-use Rattle.writing.specs.declared.Judged.{Judged}
-use Rattle.writing.specs.declared.Judged.the-variants.{Fine, Bad}
-use Rattle.writing.specs.Names.{namesOf, ended, goodName, judgedFrom}
-use Rattle.writing.specs.NamePuts.{putsOf}
+use Rattle.inputs.specs.declared.Judged.{Judged}
+use Rattle.inputs.specs.declared.Judged.the-variants.{Fine, Bad}
+use Rattle.inputs.specs.Inputs.{namesOf, ended, goodName, judgedFrom}
+use Rattle.nameputs.specs.NamePuts.{putsOf}
 use Rattle.writing.specs.Writes.{Writing, countable, laidOf, judgedOf, writeOf}
 use Rattle.demands.specs.Refusals.{OpenCase, opens-1, opens-12, opens, Countable, FirstBad, AllGood, WriteCase, writes-1, writes-12, writes-8, writes-9, writes, Ready, is-dup, is-diff, Heads, Back, Rule2, dup-back, diff-none, diff-back, HeadStop, no-type, no-head, no-distance, off-rule, Leans, on-none, on-earlier, Origin, copied, walked, Reason, by-head, by-memory, by-token, by-room, Why, unsound, uncounted, outside, unread, unnamed, ReadCase, refuses, ends, keeps, ByRule}
 use Rattle.demands.proofs.Lemmas.Traces.{name-refuses}
@@ -124,28 +133,28 @@ module _ (input dir bytes : List ℕ) where
 
 -- reading: position 0
 module _ (s : Source) (n : ℕ) where
-  dup-typed : (d : ℕ) → Heads s 5 d → headOf s n ≡ pick (dupFits d n) (head.Dup (record { 0 = d })) (head.Refused 4)
+  dup-typed : (d : ℕ) → Heads s dupNumber dupStream d → headOf s n ≡ pick (dupFits d n) (head.Dup (record { 0 = d })) (head.Refused 4)
   unfolding headOf typedHead dupHead
-  dup-typed d h = ap (typedHead s n) (h .type) ∙ pick-true _ _ (eq-eqb 5 5 refl) ∙ ap (dupHead n) (h .distance)
+  dup-typed d h = ap (typedHead s n) (h .type) ∙ pick-true _ _ (eq-eqb dupNumber dupNumber refl) ∙ ap (dupHead n) (h .distance)
 
-  diff-typed : (d : ℕ) → Heads s 6 d → headOf s n ≡ pick (diffFits d n) (head.Diff (record { 0 = d })) (head.Refused 4)
+  diff-typed : (d : ℕ) → Heads s diffNumber diffStream d → headOf s n ≡ pick (diffFits d n) (head.Diff (record { 0 = d })) (head.Refused 4)
   unfolding headOf typedHead diffHead
-  diff-typed d h = ap (typedHead s n) (h .type) ∙ pick-false _ _ (ne-eqb 6 5 (λ z. omega arith)) ∙ pick-true _ _ (eq-eqb 6 6 refl) ∙ ap (diffHead n) (h .distance)
+  diff-typed d h = ap (typedHead s n) (h .type) ∙ pick-false _ _ (ne-eqb diffNumber dupNumber (λ z. omega arith)) ∙ pick-true _ _ (eq-eqb diffNumber diffNumber refl) ∙ ap (diffHead n) (h .distance)
 
   head-stops : (r : ℕ) → HeadStop s n r → headOf s n ≡ head.Refused r
   unfolding headOf typedHead dupHead diffHead
   head-stops r (no-type e) = ap (typedHead s n) e
-  head-stops r (no-head t c e a b) = ap (typedHead s n) e ∙ pick-false _ _ (ne-eqb t 5 a) ∙ pick-false _ _ (ne-eqb t 6 b)
-  head-stops r (no-distance t c e is-dup f) = ap (typedHead s n) e ∙ pick-true _ _ (eq-eqb 5 5 refl) ∙ ap (dupHead n) f
-  head-stops r (no-distance t c e is-diff f) =
-      ap (typedHead s n) e ∙ pick-false _ _ (ne-eqb 6 5 (λ z. omega arith)) ∙ pick-true _ _ (eq-eqb 6 6 refl) ∙ ap (diffHead n) f
-  head-stops r (off-rule t d h is-dup q) = dup-typed d h ∙ pick-false _ _ (fails (λ e. q (dup-back d (back-of n d e))))
-  head-stops r (off-rule t d h is-diff q) = diff-typed d h ∙ pick-false _ _ (fails (λ e. q (diff-rule n d e)))
+  head-stops r (no-head t c e a b) = ap (typedHead s n) e ∙ pick-false _ _ (ne-eqb t dupNumber a) ∙ pick-false _ _ (ne-eqb t diffNumber b)
+  head-stops r (no-distance t i c e is-dup f) = ap (typedHead s n) e ∙ pick-true _ _ (eq-eqb dupNumber dupNumber refl) ∙ ap (dupHead n) f
+  head-stops r (no-distance t i c e is-diff f) =
+      ap (typedHead s n) e ∙ pick-false _ _ (ne-eqb diffNumber dupNumber (λ z. omega arith)) ∙ pick-true _ _ (eq-eqb diffNumber diffNumber refl) ∙ ap (diffHead n) f
+  head-stops r (off-rule t i d h is-dup q) = dup-typed d h ∙ pick-false _ _ (fails (λ e. q (dup-back d (back-of n d e))))
+  head-stops r (off-rule t i d h is-diff q) = diff-typed d h ∙ pick-false _ _ (fails (λ e. q (diff-rule n d e)))
 
-  head-dup : (d : ℕ) → Heads s 5 d → Back n d → headOf s n ≡ head.Dup (record { 0 = d })
+  head-dup : (d : ℕ) → Heads s dupNumber dupStream d → Back n d → headOf s n ≡ head.Dup (record { 0 = d })
   head-dup d h b = dup-typed d h ∙ pick-true _ _ (of-back n d b)
 
-  head-diff : (d : ℕ) → Heads s 6 d → Rule2 n 6 d → headOf s n ≡ head.Diff (record { 0 = d })
+  head-diff : (d : ℕ) → Heads s diffNumber diffStream d → Rule2 n diffNumber d → headOf s n ≡ head.Diff (record { 0 = d })
   head-diff d h b = diff-typed d h ∙ pick-true _ _ (rule-diff n d b)
 
 -- the name
@@ -167,8 +176,8 @@ module _ (s : Source) (m : Kept) where
   reason-reads : (r : ℕ) → Reason s m r → nameRead ≡ atName s m r
   unfolding headedOf diffOf namedOf keepOf
   reason-reads r (by-head x q) = ap (headedOf s m) (head-stops s _ r q)
-  reason-reads r (by-memory t d h is-dup b f) = ap (headedOf s m) (head-dup s _ d h b) ∙ pick-false _ _ f
-  reason-reads r (by-memory t d h is-diff b f) =
+  reason-reads r (by-memory t i d h is-dup b f) = ap (headedOf s m) (head-dup s _ d h b) ∙ pick-false _ _ f
+  reason-reads r (by-memory t i d h is-diff b f) =
       ap (headedOf s m) (head-diff s _ d h (diff-back d b)) ∙ pick-false _ _ (ne-eqb d 0 (λ z. omega (arith, b .0))) ∙ pick-false _ _ f
   reason-reads r (by-token x d e l q) = leans-reads d e l ∙ ap (namedOf s m d) q
   reason-reads r (by-room x first rows d o f) = origin-reads x first rows d o ∙ pick-false _ _ f
@@ -216,12 +225,12 @@ carries-number s m r n e = carries m s r n (refusal.At r n) (read-why s m (refus
 head-rule : (s : Source) (n r : ℕ) → HeadStop s n r → ByRule r
 head-rule s n r (no-type e) = (omega arith, omega arith)
 head-rule s n r (no-head t c e a b) = (omega arith, omega arith)
-head-rule s n r (no-distance t c e h f) = (omega arith, omega arith)
-head-rule s n r (off-rule t d h i q) = (omega arith, omega arith)
+head-rule s n r (no-distance t i c e h f) = (omega arith, omega arith)
+head-rule s n r (off-rule t i d h is q) = (omega arith, omega arith)
 
 pub by-reason : {P : Type 0} (s : Source) (m : Kept) (r : ℕ) → Reason s m r → (ByRule r → P)
     → ((d : ℕ) → Back (m .state .names) d → earlierFits m (m .state .names - d) ≡ false → r ≡ 13 → P) → P
 by-reason s m r (by-head x q) f g = f (head-rule s _ r q)
-by-reason s m r (by-memory t d h i b q) f g = g d b q refl
+by-reason s m r (by-memory t i d h is b q) f g = g d b q refl
 by-reason s m r (by-token x d e l q) f g = f (name-refuses _ _ _ _ r q)
 by-reason s m r (by-room x first rows d o q) f g = f (omega arith, omega arith)

@@ -14,18 +14,16 @@ use Rattle.block.specs.declared.State.{State}
 use Rattle.block.specs.Block.{Opening, opening, openOf, sound, state}
 use Rattle.block.proofs.Laws.{Accepted, accepted}
 use Rattle.kept.specs.Tables.{Kept, keeping}
-use Rattle.steps.specs.Source.{Source, source}
-use Rattle.reading.specs.declared.Answer.the-variants as answer
-use Rattle.reading.specs.Reads.{Outcome, outcome, readOf, kept}
-use Rattle.reading.specs.Blocks.{goOn, readsFrom, openedOf, blockOf}
-use Rattle.demands.specs.Runs.{Lent, lent, read, left, Keeps, none, next}
+use Rattle.sources.specs.Source.{Source, source}
+use Rattle.entries.specs.declared.Answer.the-variants as answer
+use Rattle.entries.specs.Outcomes.{Outcome, outcome}
+use Rattle.reads.specs.Reads.{readOf, goOn, readsFrom}
+use Rattle.entries.specs.Entries.{kept}
+use Rattle.reading.specs.Blocks.{openedOf, blockOf}
+use Rattle.demands.specs.Runs.{Lent, lent, read, left, none, next}
+use Rattle.demands.specs.Untouched.{Untouched, Whole}
 use Rattle.demands.specs.Refusals.{ReadCase, refuses, ends, keeps}
 use Rattle.demands.proofs.Lemmas.Ways.{read-case}
-
--- the cursors, the state and all buffers are as they were
-pub record Untouched (s : Source) (m : Kept) (o : Outcome) : Type 0 where
-  pub cursors : o .cur ≡ s .cur
-  pub memory : o .kept ≡ m
 
 refused-way : (s : Source) (m : Kept) (r : Refusal) (o : Outcome) → ReadCase s m o → o .answer ≡ answer.Refused r → Untouched s m o
 unfolding kept
@@ -55,15 +53,6 @@ open-refused n dir count cur r =
     pick-holds (λ (o : Opening). o .answer ≡ opened.Refused r → o .cursors ≡ cur) (not (sound n dir cur)) _ _ (λ a e. refl)
     (λ a. pick-holds (λ (o : Opening). o .answer ≡ opened.Refused r → o .cursors ≡ cur) (ltb 65536 count) _ _ (λ b e. refl)
     (λ b e. let z : _≡_ {A = ℕ} 0 1 = cc in absurd (omega arith)))
-
--- a whole-block read, from what opening left: reads that keep a name, then one that doesn't. The answer is that one's, and what those before it did, stays
-pub record Whole (bytes dir : List ℕ) (l : Lent) (o : Outcome) : Type 0 where
-  pub names : ℕ
-  pub last : Lent
-  pub before : Keeps bytes dir names l last
-  pub answers : o .answer ≡ read bytes dir last .answer
-  pub stops : (i : ℕ) → o .answer ≡ answer.Kept i → ⊥
-  pub stays : left o ≡ last
 
 module _ (bytes dir : List ℕ) where
   -- one read more before it

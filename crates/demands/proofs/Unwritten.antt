@@ -6,18 +6,13 @@ use native.Mathlib.Omega.{arith}
 use lib.Dec.{leb, eqb}
 use lib.ListN.{length}
 use Rattle.base.proofs.Choice.{pick-holds}
-use Rattle.block.specs.declared.Refusal.{Refusal}
-use Rattle.writing.specs.declared.Judged.{Judged}
-use Rattle.writing.specs.declared.Judged.the-variants.{Fine, Bad}
-use Rattle.writing.specs.declared.WriteAnswer.the-variants.{Refused}
-use Rattle.writing.specs.Names.{namesOf, judgedFrom}
-use Rattle.writing.specs.NamePuts.{putsOf}
+use Rattle.inputs.specs.declared.Judged.{Judged}
+use Rattle.inputs.specs.declared.Judged.the-variants.{Fine, Bad}
+use Rattle.inputs.specs.Inputs.{namesOf, judgedFrom}
+use Rattle.nameputs.specs.NamePuts.{putsOf}
 use Rattle.laying.specs.Puts.{totalOf}
-use Rattle.writing.specs.Writes.{Writing, countable, laidOf, judgedOf, writeOf}
-
--- if it is refused, both are as they were
-abbrev Unwritten : List ℕ → List ℕ → Writing → Type 0
-Unwritten dir bytes w = (r : Refusal) → w .answer ≡ Refused r → (w .directory ≡ dir) × (w .bytes ≡ bytes)
+use Rattle.writing.specs.Writes.{countable, laidOf, judgedOf, writeOf}
+use Rattle.demands.specs.Untouched.{Unwritten}
 
 laid : (names : List (List ℕ)) (dir bytes : List ℕ) → Unwritten dir bytes (laidOf names dir bytes)
 unfolding laidOf
@@ -31,8 +26,7 @@ unfolding judgedOf
 judged Fine names dir bytes = laid names dir bytes
 judged (Bad n) names dir bytes = λ r e. (refl, refl)
 
-pub write-refused : (input dir bytes : List ℕ) (r : Refusal) → writeOf input dir bytes .answer ≡ Refused r
-    → (writeOf input dir bytes .directory ≡ dir) × (writeOf input dir bytes .bytes ≡ bytes)
+pub write-refused : (input dir bytes : List ℕ) → Unwritten dir bytes (writeOf input dir bytes)
 unfolding writeOf
 write-refused input dir bytes =
     pick-holds (Unwritten dir bytes) (eqb (length dir) 2580) _ _

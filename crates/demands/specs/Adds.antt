@@ -7,10 +7,12 @@ use lib.ListN.{length, getD}
 use Rattle.base.specs.Memory.{part}
 use Rattle.block.specs.Block.{cursorOf, state}
 use Rattle.block.specs.Open.{Open}
+use Rattle.block.specs.Streams.{dupStream, diffStream}
 use Rattle.kept.specs.declared.Entry.{Entry}
-use Rattle.kept.specs.Tables.{Kept, entryAt}
-use Rattle.steps.specs.Source.{Source}
-use Rattle.reading.specs.Reads.{Outcome, entryBack}
+use Rattle.kept.specs.Tables.{entrySize, rowSize, Kept, entryAt}
+use Rattle.sources.specs.Source.{Source}
+use Rattle.entries.specs.Outcomes.{Outcome}
+use Rattle.earlier.specs.Back.{entryBack}
 use Rattle.claims.specs.Claims.{nameText}
 use Rattle.demands.specs.Takes.{takesFrom, headTakes}
 use Rattle.demands.specs.Right.{Refers}
@@ -29,9 +31,9 @@ pub record Alike (before after : List ℕ) (from to : ℕ) : Type 0 where
 -- a DIFF has the rows that it adds, and takes its type and distance and its positions up to END, which are one more than its rows
 pub data Kind (s : Source) (m : Kept) : List ℕ → ℕ → (ℕ → ℕ) → Entry → Type 0 where
   by-dup : (e : Entry) → e .first ≡ entryBack m (e .distance) .first → e .rows ≡ entryBack m (e .distance) .rows
-      → Kind s m (nameText (m .text) (entryBack m (e .distance))) 0 (headTakes 5) e
+      → Kind s m (nameText (m .text) (entryBack m (e .distance))) 0 (headTakes dupStream) e
   by-diff : (name : List ℕ) (rows : ℕ) (e : Entry) → e .first ≡ m .state .rows → e .rows ≡ rows
-      → Kind s m name rows (λ j. headTakes 6 j + takesFrom s 1 (rows + 1) j) e
+      → Kind s m name rows (λ j. headTakes diffStream j + takesFrom s 1 (rows + 1) j) e
 
 pub record Adds (s : Source) (m : Kept) (number : ℕ) (o : Outcome) : Type 0 where
   -- the name's bytes, and how many rows it adds
@@ -47,12 +49,12 @@ pub record Adds (s : Source) (m : Kept) (number : ℕ) (o : Outcome) : Type 0 wh
   pub written : part (o .kept .text) (m .state .text) (m .state .text + length name) ≡ name
   pub ended : getD (o .kept .text) (m .state .text + length name) 0 ≡ 10
   -- its entry, and no other number of that table
-  pub names : Alike (m .names) (o .kept .names) (5 * m .state .names) (5 * m .state .names + 5)
+  pub names : Alike (m .names) (o .kept .names) (entrySize * m .state .names) (entrySize * m .state .names + entrySize)
   pub starts : entryAt (o .kept .names) number .start ≡ m .state .text
   pub long : entryAt (o .kept .names) number .length ≡ length name
   pub refers : Refers number (entryAt (o .kept .names) number .distance)
   -- its rows, and no other number of that table
-  pub table : Alike (m .rows) (o .kept .rows) (5 * m .state .rows) (5 * (m .state .rows + rows))
+  pub table : Alike (m .rows) (o .kept .rows) (rowSize * m .state .rows) (rowSize * (m .state .rows + rows))
   -- each cursor moves by the bytes that the name took from its span, and stays inside it
   pub kind : Kind s m name rows taken (entryAt (o .kept .names) number)
   pub moves : (j : ℕ) → cursorOf (o .cur) j ≡ cursorOf (s .cur) j + taken j

@@ -2,11 +2,12 @@
 use Prim.Native.Nat.{ℕ}
 use mathlib.Core.List.{List, [], _∷_, _++_}
 use Rattle.block.specs.declared.Refusal.the-variants as refusal
-use Rattle.reading.specs.declared.Answer.the-variants as answer
-use Rattle.splitting.specs.declared.Piece.the-variants.{Digits, Digits0}
-use Rattle.splitting.specs.declared.Choice.{Choice}
-use Rattle.splitting.specs.declared.Choice.the-variants.{Itself, Delta, End}
-use Rattle.splitting.specs.Choices.{choicesOf, leansOn}
+use Rattle.entries.specs.declared.Answer.the-variants as answer
+use Rattle.pieces.specs.declared.Piece.the-variants.{Digits, Digits0}
+use Rattle.choices.specs.declared.Choice.{Choice}
+use Rattle.choices.specs.declared.Choice.the-variants.{Itself, Delta, End}
+use Rattle.choices.specs.Choices.{choicesOf}
+use Rattle.references.specs.References.{leansOn}
 use Rattle.demands.specs.Cases.{Case, Shown, prints, refuses, digits0, delta, delta0, Stream, stream, Told, readOver}
 
 -- a block refused at a name, the text kept before it

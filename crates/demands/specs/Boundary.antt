@@ -3,8 +3,8 @@ use Prim.Native.Nat.{ℕ, suc, _^_, _≤_, _<_}
 use mathlib.Core.Path.{_≡_}
 use mathlib.Core.List.{List, [], _∷_}
 use Rattle.kept.specs.Tables.{keeping}
-use Rattle.aqsurvel.specs.Answers.{packed, stateIn}
-use Rattle.aqsurvel.specs.Calls.{Opens, Reads, reads, readCall, claimCall}
+use Rattle.answers.specs.Answers.{packed, stateIn}
+use Rattle.calls.specs.Calls.{Opens, Reads, reads, readCall, claimCall}
 use Rattle.demands.specs.Runs.{Lent, lent, nameAt, Call, reading, claiming}
 use Rattle.demands.specs.Right.{Demand3}
 

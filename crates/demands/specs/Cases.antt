@@ -11,11 +11,12 @@ use Rattle.spans.specs.declared.NextFour.the-variants as four
 use Rattle.block.specs.Block.{spanOf, starts, state}
 use Rattle.tokens.specs.Tokens.{bytesOf}
 use Rattle.kept.specs.Tables.{keeping}
-use Rattle.steps.specs.declared.Step.{Step}
-use Rattle.steps.specs.declared.Step.the-variants as step
-use Rattle.steps.specs.Steps.{digits0Step, deltaStep, delta0Step}
-use Rattle.reading.specs.declared.Answer.{Answer}
-use Rattle.reading.specs.Reads.{Outcome}
+use Rattle.values.specs.declared.Step.{Step}
+use Rattle.values.specs.declared.Step.the-variants as step
+use Rattle.values.specs.Values.{paddedOf, digits0Step}
+use Rattle.sums.specs.Sums.{deltaStep, delta0Step}
+use Rattle.entries.specs.declared.Answer.{Answer}
+use Rattle.entries.specs.Outcomes.{Outcome}
 use Rattle.demands.specs.Runs.{Lent, lent, read, run, reading}
 
 -- a case: what the definitions give, and what the paper says
@@ -41,7 +42,7 @@ shown (step.Refused r) = refuses r
 
 -- DIGITS0 with a number and a width
 abbrev pub digits0 : ℕ → ℕ → Shown
-digits0 n w = shown (digits0Step (four.Value n (record { 0 = 4 })) (byte.Value w (record { 0 = 1 })))
+digits0 n w = shown (digits0Step (paddedOf (four.Value n (record { 0 = 4 })) (byte.Value w (record { 0 = 1 }))))
 
 -- DDELTA on an earlier DIGITS row, and DDELTA0 on an earlier DIGITS0 row of a width
 abbrev pub delta : ℕ → ℕ → Shown

@@ -4,6 +4,8 @@ pub mod Bench
 pub mod Takes
 pub mod Printing
 pub mod Refusals
+pub mod Untouched
+pub mod Done
 pub mod Right
 pub mod Adds
 pub mod Traces

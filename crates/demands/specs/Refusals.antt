@@ -14,17 +14,22 @@ use Rattle.block.specs.declared.Refusal.the-variants as refusal
 use Rattle.block.specs.declared.Opened.the-variants as opened
 use Rattle.block.specs.Block.{Opening, opening, sound, starts, state, allInside, allAtEnd}
 use Rattle.block.specs.Open.{Open}
+use Rattle.block.specs.Streams.{typeStream, dupStream, diffStream}
 use Rattle.kept.specs.Tables.{Kept}
 use Rattle.kept.specs.Judgement.{counts, earlierFits}
 use Rattle.kept.specs.Inside.{Counted, EntryInside}
-use Rattle.steps.specs.Source.{Source, Earlier, byteIn, fourIn}
+use Rattle.tokens.specs.Types.{dupNumber, diffNumber}
+use Rattle.sources.specs.Source.{Source, Earlier, byteIn, fourIn}
 use Rattle.names.specs.Names.{Draft, draft, named, refused, nameOf}
-use Rattle.reading.specs.declared.Answer.the-variants as answer
-use Rattle.reading.specs.Reads.{Outcome, outcome, roomFor, kept, headPast, rowsOf, none, entryBack}
+use Rattle.entries.specs.declared.Answer.the-variants as answer
+use Rattle.entries.specs.Outcomes.{Outcome, outcome}
+use Rattle.entries.specs.Entries.{roomFor, kept}
+use Rattle.heads.specs.Heads.{headPast}
+use Rattle.earlier.specs.Back.{rowsOf, none, entryBack}
 use Rattle.laying.specs.Puts.{totalOf, directoryOf, bytesOf}
 use Rattle.writing.specs.declared.WriteAnswer.the-variants as written
-use Rattle.writing.specs.Names.{namesOf, ended, goodName}
-use Rattle.writing.specs.NamePuts.{putsOf}
+use Rattle.inputs.specs.Inputs.{namesOf, ended, goodName}
+use Rattle.nameputs.specs.NamePuts.{putsOf}
 use Rattle.writing.specs.Writes.{Writing, writing}
 
 -- opening: 1, 12
@@ -63,17 +68,17 @@ pub record Ready (s : Source) (m : Kept) : Type 0 where
   pub opened : Open (s .bytes) (s .dir) (s .cur)
   pub counts : Counted m
 
--- DUP is 5, DIFF is 6; so are the streams of their distances
-pub data IsHead : ℕ → Type 0 where
-  is-dup : IsHead 5
-  is-diff : IsHead 6
+-- DUP and DIFF, and the streams of their distances
+pub data IsHead : ℕ → ℕ → Type 0 where
+  is-dup : IsHead dupNumber dupStream
+  is-diff : IsHead diffNumber diffStream
 
--- position 0 gives this type and this distance
-pub record Heads (s : Source) (t d : ℕ) : Type 0 where
+-- position 0 gives this type, and its stream this distance
+pub record Heads (s : Source) (t i d : ℕ) : Type 0 where
   pub past : Cursor
   pub behind : Cursor
-  pub type : byteIn s 0 0 ≡ byte.Value t past
-  pub distance : fourIn s 0 t ≡ four.Value d behind
+  pub type : byteIn s 0 typeStream ≡ byte.Value t past
+  pub distance : fourIn s 0 i ≡ four.Value d behind
 
 -- rule 2 for DUP and for every later name
 abbrev pub Back : ℕ → ℕ → Type 0
@@ -81,34 +86,34 @@ Back n d = (1 ≤ d) × (d ≤ n)
 
 -- rule 2: which distances name n may have with which type
 pub data Rule2 (n : ℕ) : ℕ → ℕ → Type 0 where
-  dup-back : (d : ℕ) → Back n d → Rule2 n 5 d
-  diff-none : n ≡ 0 → Rule2 n 6 0
-  diff-back : (d : ℕ) → Back n d → Rule2 n 6 d
+  dup-back : (d : ℕ) → Back n d → Rule2 n dupNumber d
+  diff-none : n ≡ 0 → Rule2 n diffNumber 0
+  diff-back : (d : ℕ) → Back n d → Rule2 n diffNumber d
 
 -- what position 0 is refused for: no type, another type, no distance, or one outside rule 2
 pub data HeadStop (s : Source) (n : ℕ) : ℕ → Type 0 where
-  no-type : byteIn s 0 0 ≡ byte.Short → HeadStop s n 2
-  no-head : (t : ℕ) (c : Cursor) → byteIn s 0 0 ≡ byte.Value t c → (t ≡ 5 → ⊥) → (t ≡ 6 → ⊥) → HeadStop s n 3
-  no-distance : (t : ℕ) (c : Cursor) → byteIn s 0 0 ≡ byte.Value t c → IsHead t → fourIn s 0 t ≡ four.Short → HeadStop s n 2
-  off-rule : (t d : ℕ) → Heads s t d → IsHead t → (Rule2 n t d → ⊥) → HeadStop s n 4
+  no-type : byteIn s 0 typeStream ≡ byte.Short → HeadStop s n 2
+  no-head : (t : ℕ) (c : Cursor) → byteIn s 0 typeStream ≡ byte.Value t c → (t ≡ dupNumber → ⊥) → (t ≡ diffNumber → ⊥) → HeadStop s n 3
+  no-distance : (t i : ℕ) (c : Cursor) → byteIn s 0 typeStream ≡ byte.Value t c → IsHead t i → fourIn s 0 i ≡ four.Short → HeadStop s n 2
+  off-rule : (t i d : ℕ) → Heads s t i d → IsHead t i → (Rule2 n t d → ⊥) → HeadStop s n 4
 
 -- the rows that a DIFF goes by: none for name 0, else those of the name so far back, whose entry and rows all point inside
 pub data Leans (s : Source) (m : Kept) : ℕ → Earlier → Type 0 where
-  on-none : Heads s 6 0 → m .state .names ≡ 0 → Leans s m 0 (none m)
-  on-earlier : (d : ℕ) → Heads s 6 d → Back (m .state .names) d → EntryInside (m .state) (m .rows) (entryBack m d) → Leans s m d (rowsOf m (entryBack m d))
+  on-none : Heads s diffNumber diffStream 0 → m .state .names ≡ 0 → Leans s m 0 (none m)
+  on-earlier : (d : ℕ) → Heads s diffNumber diffStream d → Back (m .state .names) d → EntryInside (m .state) (m .rows) (entryBack m d) → Leans s m d (rowsOf m (entryBack m d))
 
 -- how a name comes about, by rule 3 or 4: its text, rows and cursors, its first row, number of rows and distance
 pub data Origin (s : Source) (m : Kept) : Draft → ℕ → ℕ → ℕ → Type 0 where
-  copied : (d : ℕ) → Heads s 5 d → Back (m .state .names) d → EntryInside (m .state) (m .rows) (entryBack m d)
-      → Origin s m (draft (part (m .text) (entryBack m d .start) (entryBack m d .start + entryBack m d .length)) [] 0 (headPast (s .cur) 5)) (entryBack m d .first) (entryBack m d .rows) d
-  walked : (x : Draft) (d : ℕ) (e : Earlier) → Leans s m d e → nameOf s e (m .state .text) (headPast (s .cur) 6) ≡ named x → Origin s m x (m .state .rows) (x .count) d
+  copied : (d : ℕ) → Heads s dupNumber dupStream d → Back (m .state .names) d → EntryInside (m .state) (m .rows) (entryBack m d)
+      → Origin s m (draft (part (m .text) (entryBack m d .start) (entryBack m d .start + entryBack m d .length)) [] 0 (headPast (s .cur) dupStream)) (entryBack m d .first) (entryBack m d .rows) d
+  walked : (x : Draft) (d : ℕ) (e : Earlier) → Leans s m d e → nameOf s e (m .state .text) (headPast (s .cur) diffStream) ≡ named x → Origin s m x (m .state .rows) (x .count) d
 
 -- why the name being read is refused: its head; 13, after 4, for the earlier name's entry or rows, for DUP too;
 -- what the walk over its tokens meets first (2, 3, 5 to 8); and last, the name itself being fine, 9
 pub data Reason (s : Source) (m : Kept) : ℕ → Type 0 where
   by-head : (r : ℕ) → HeadStop s (m .state .names) r → Reason s m r
-  by-memory : (t d : ℕ) → Heads s t d → IsHead t → Back (m .state .names) d → earlierFits m (m .state .names - d) ≡ false → Reason s m 13
-  by-token : (r d : ℕ) (e : Earlier) → Leans s m d e → nameOf s e (m .state .text) (headPast (s .cur) 6) ≡ refused r → Reason s m r
+  by-memory : (t i d : ℕ) → Heads s t i d → IsHead t i → Back (m .state .names) d → earlierFits m (m .state .names - d) ≡ false → Reason s m 13
+  by-token : (r d : ℕ) (e : Earlier) → Leans s m d e → nameOf s e (m .state .text) (headPast (s .cur) diffStream) ≡ refused r → Reason s m r
   by-room : (x : Draft) (first rows d : ℕ) → Origin s m x first rows d → roomFor m x ≡ false → Reason s m 9
 
 -- why a read is refused: 1; 13 for the counts and cursors; 10; then the name

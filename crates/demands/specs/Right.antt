@@ -8,7 +8,7 @@ use Rattle.block.specs.declared.Refusal.the-variants as refusal
 use Rattle.block.specs.Open.{Open}
 use Rattle.kept.specs.Tables.{Kept, entryAt, rowAt}
 use Rattle.kept.specs.Inside.{Counted, TextInside, RowsInside, RowInside}
-use Rattle.reading.specs.declared.Answer.the-variants as answer
+use Rattle.entries.specs.declared.Answer.the-variants as answer
 use Rattle.claims.specs.declared.Verdict.the-variants.{Confirmed, Denied, Refused}
 use Rattle.claims.specs.Claims.{nameText}
 use Rattle.demands.specs.Printing.{rowText, rowPrints, rowsPrint}

@@ -7,9 +7,10 @@ use Rattle.block.specs.declared.Opened.the-variants as opened
 use Rattle.block.specs.declared.State.{State}
 use Rattle.block.specs.Block.{openOf, opening}
 use Rattle.kept.specs.Tables.{Kept, entryAt}
-use Rattle.steps.specs.Source.{source}
-use Rattle.reading.specs.declared.Answer.the-variants as answer
-use Rattle.reading.specs.Reads.{Outcome, readOf}
+use Rattle.sources.specs.Source.{source}
+use Rattle.entries.specs.declared.Answer.the-variants as answer
+use Rattle.entries.specs.Outcomes.{Outcome}
+use Rattle.reads.specs.Reads.{readOf}
 use Rattle.claims.specs.declared.Verdict.{Verdict}
 use Rattle.claims.specs.Claims.{nameText, claimOf}
 

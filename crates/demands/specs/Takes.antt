@@ -4,9 +4,10 @@ use lib.Dec.{eqb}
 use Rattle.base.specs.Choice.{pick}
 use Rattle.spans.specs.Spans.{textEnd}
 use Rattle.block.specs.Block.{spanOf, endOf, cursorOf}
+use Rattle.block.specs.Streams.{typeStream, stringStream, charStream, digits0Stream, dzlenStream, digitsStream, ddeltaStream, ddelta0Stream}
 use Rattle.tokens.specs.declared.TokenType.{TokenType}
 use Rattle.tokens.specs.declared.TokenType.the-variants as type
-use Rattle.steps.specs.Source.{Source, byteIn}
+use Rattle.sources.specs.Source.{Source, byteIn}
 use Rattle.names.specs.Names.{typeIn}
 
 -- n bytes from span i and none from the others, for span j
@@ -15,23 +16,23 @@ from i n j = pick (eqb j i) n 0
 
 -- a STRING takes its bytes and the zero byte
 unfoldable pub textTakes : Source → ℕ → ℕ
-textTakes s p = textEnd (s .bytes) (cursorOf (s .cur) (spanOf p 1)) (endOf (s .dir) (spanOf p 1)) + 1 - cursorOf (s .cur) (spanOf p 1)
+textTakes s p = textEnd (s .bytes) (cursorOf (s .cur) (spanOf p stringStream)) (endOf (s .dir) (spanOf p stringStream)) + 1 - cursorOf (s .cur) (spanOf p stringStream)
 
 -- what the value of each type takes from span j
 unfoldable pub valueTakes : Source → ℕ → TokenType → ℕ → ℕ
-valueTakes s p type.String j = from (spanOf p 1) (textTakes s p) j
-valueTakes s p type.Char j = from (spanOf p 2) 1 j
-valueTakes s p type.Digits j = from (spanOf p 7) 4 j
-valueTakes s p type.Digits0 j = from (spanOf p 3) 4 j + from (spanOf p 4) 1 j
-valueTakes s p type.Delta j = from (spanOf p 8) 1 j
-valueTakes s p type.Delta0 j = from (spanOf p 9) 1 j
+valueTakes s p type.String j = from (spanOf p stringStream) (textTakes s p) j
+valueTakes s p type.Char j = from (spanOf p charStream) 1 j
+valueTakes s p type.Digits j = from (spanOf p digitsStream) 4 j
+valueTakes s p type.Digits0 j = from (spanOf p digits0Stream) 4 j + from (spanOf p dzlenStream) 1 j
+valueTakes s p type.Delta j = from (spanOf p ddeltaStream) 1 j
+valueTakes s p type.Delta0 j = from (spanOf p ddelta0Stream) 1 j
 valueTakes s p type.Match j = 0
 valueTakes s p type.End j = 0
 valueTakes s p type.Other j = 0
 
 -- what position p takes: the type, and the value
 unfoldable pub positionTakes : Source → ℕ → ℕ → ℕ
-positionTakes s p j = from (spanOf p 0) 1 j + valueTakes s p (typeIn (byteIn s p 0)) j
+positionTakes s p j = from (spanOf p typeStream) 1 j + valueTakes s p (typeIn (byteIn s p typeStream)) j
 
 -- so many positions from p on
 unfoldable pub takesFrom : Source → ℕ → ℕ → ℕ → ℕ
@@ -40,4 +41,4 @@ takesFrom s p (suc n) j = positionTakes s p j + takesFrom s (p + 1) n j
 
 -- position 0: the type, and the four bytes of the distance from the DUP or the DIFF span
 unfoldable pub headTakes : ℕ → ℕ → ℕ
-headTakes stream j = from (spanOf 0 0) 1 j + from (spanOf 0 stream) 4 j
+headTakes stream j = from (spanOf 0 typeStream) 1 j + from (spanOf 0 stream) 4 j

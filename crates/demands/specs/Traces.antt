@@ -2,7 +2,7 @@
 use mathlib.Core.Path.{_≡_}
 use mathlib.Core.List.{List, [], _∷_}
 use Prim.Native.Nat.{ℕ}
-use Rattle.reading.specs.Reads.{Outcome}
+use Rattle.entries.specs.Outcomes.{Outcome}
 use Rattle.claims.specs.declared.Verdict.{Verdict}
 use Rattle.demands.specs.Runs.{Lent, left, read, claimed, Call, reading, claiming}
 

@@ -7,6 +7,7 @@ ghost use Prim.Native.Nat.{_≤_, _+_, _-_};
 ghost use lib.ListN.{length, take};
 ghost use Rattle.base.specs.Memory.{written};
 ghost use Rattle.digits.specs.Digits.{low, padded, digitCount, printed, fitsWidth};
+ghost use Rattle.base.specs.Lent.{lent, left};
 
 // How many digits a number has. Comparisons, since a division for each digit is slower.
 pub fn count(n: u32) -> usize
@@ -45,7 +46,7 @@ pub fn count(n: u32) -> usize
 // A number's digits from the back, and how many.
 fn low_digits(n: u32, s: &mut [u8]) -> usize
     requires { ⌜ 10 ≤ length (now s) ⌝ }
-    ensures { λ r. ⌜ (r ≡ digitCount n) × (now (s .exit) ≡ written (now (s .entry)) 0 (low (digitCount n) n)) ⌝ }
+    ensures { λ r. ⌜ (r ≡ digitCount n) × (left s ≡ written (lent s) 0 (low (digitCount n) n)) ⌝ }
 {
     let mut m = n;
     let mut k: usize = 0;
@@ -61,7 +62,7 @@ fn low_digits(n: u32, s: &mut [u8]) -> usize
 // The first w bytes, turned round, at a place.
 fn turn(s: &[u8], w: usize, buf: &mut [u8], at: usize)
     requires { ⌜ (w ≤ length (now s)) × (at + w ≤ length (now buf)) ⌝ }
-    ensures { λ _. ⌜ now (buf .exit) ≡ written (now (buf .entry)) at (reverse (take w (now (s .entry)))) ⌝ }
+    ensures { λ _. ⌜ left buf ≡ written (lent buf) at (reverse (take w (lent s))) ⌝ }
 {
     let mut j: usize = 0;
     while j < w {
@@ -73,7 +74,7 @@ fn turn(s: &[u8], w: usize, buf: &mut [u8], at: usize)
 // A number with no leading zeros at a place, and how many bytes that is.
 pub fn print(n: u32, buf: &mut [u8], at: usize) -> usize
     requires { ⌜ at + length (printed n) ≤ length (now buf) ⌝ }
-    ensures { λ r. ⌜ (r ≡ length (printed n)) × (now (buf .exit) ≡ written (now (buf .entry)) at (printed n)) ⌝ }
+    ensures { λ r. ⌜ (r ≡ length (printed n)) × (left buf ≡ written (lent buf) at (printed n)) ⌝ }
 {
     let mut s = [48u8; 10];
     let w = low_digits(n, &mut s);
@@ -84,7 +85,7 @@ pub fn print(n: u32, buf: &mut [u8], at: usize) -> usize
 // A number padded with zeros to a width, at a place. The zeros are the digits that a division of 0 goes on giving.
 pub fn print_padded(n: u32, width: u32, buf: &mut [u8], at: usize)
     requires { ⌜ at + width ≤ length (now buf) ⌝ }
-    ensures { λ _. ⌜ now (buf .exit) ≡ written (now (buf .entry)) at (padded n width) ⌝ }
+    ensures { λ _. ⌜ left buf ≡ written (lent buf) at (padded n width) ⌝ }
 {
     let mut m = n;
     let mut k = width as usize;

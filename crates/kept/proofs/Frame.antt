@@ -1,7 +1,7 @@
 -- What stands below a place of a table is all that its entries and rows there depend on.
 use Prim.Native.Nat.{ℕ, _+_, _*_, _≤_, _<_}
 use mathlib.Core.Path.{_≡_, refl, ap, subst}
-use mathlib.Core.List.{List, [], _∷_}
+use mathlib.Core.List.{List, _∷_}
 use native.Mathlib.Omega.{arith}
 use native.Mathlib.Nat.{add-zero}
 use lib.ListN.{length, getD}
@@ -12,36 +12,36 @@ use Rattle.base.proofs.Holding.{Holds, holds-at}
 use Rattle.block.specs.declared.State.{State}
 use Rattle.kept.specs.declared.Entry.{Entry}
 use Rattle.kept.specs.declared.Row.{Row}
-use Rattle.kept.specs.Tables.{Kept, entryAt, rowAt}
+use Rattle.kept.specs.Tables.{Kept, entrySize, rowSize, entryAt, rowAt, entryNumbers, rowNumbers}
 use Rattle.kept.specs.Judgement.{rowFits, rowsFit}
 use Rattle.kept.specs.Inside.{RowInside, EntryInside, Earlier}
 use Rattle.kept.proofs.Laws.{row-more}
 
--- two tables have the same first n fives
+-- two tables have the same first n numbers
 abbrev pub Alike : List ℕ → List ℕ → ℕ → Type 0
-Alike a b n = (j : ℕ) → j < 5 * n → getD a j 0 ≡ getD b j 0
+Alike a b n = (j : ℕ) → j < n → getD a j 0 ≡ getD b j 0
 
-module _ (a b : List ℕ) (n : ℕ) (alike : Alike a b n) where
-  pub entry-alike : (i : ℕ) → i < n → entryAt a i ≡ entryAt b i
-  unfolding entryAt
-  entry-alike i h =
-      rw (
-        alike (5 * i) (omega arith),
-        alike (5 * i + 1) (omega arith),
-        alike (5 * i + 2) (omega arith),
-        alike (5 * i + 3) (omega arith),
-        alike (5 * i + 4) (omega arith),
-      )
+pub entry-alike : (a b : List ℕ) (n : ℕ) → Alike a b (entrySize * n) → (i : ℕ) → i < n → entryAt a i ≡ entryAt b i
+unfolding entryAt
+entry-alike a b n alike i h =
+    rw (
+      alike (entrySize * i) (omega arith),
+      alike (entrySize * i + 1) (omega arith),
+      alike (entrySize * i + 2) (omega arith),
+      alike (entrySize * i + 3) (omega arith),
+      alike (entrySize * i + 4) (omega arith),
+    )
 
+module _ (a b : List ℕ) (n : ℕ) (alike : Alike a b (rowSize * n)) where
   pub row-alike : (i : ℕ) → i < n → rowAt a i ≡ rowAt b i
   unfolding rowAt
   row-alike i h =
       rw (
-        alike (5 * i) (omega arith),
-        alike (5 * i + 1) (omega arith),
-        alike (5 * i + 2) (omega arith),
-        alike (5 * i + 3) (omega arith),
-        alike (5 * i + 4) (omega arith),
+        alike (rowSize * i) (omega arith),
+        alike (rowSize * i + 1) (omega arith),
+        alike (rowSize * i + 2) (omega arith),
+        alike (rowSize * i + 3) (omega arith),
+        alike (rowSize * i + 4) (omega arith),
       )
 
   pub rows-alike : (used first many : ℕ) → first + many ≤ n → rowsFit used a first many ≡ rowsFit used b first many
@@ -50,64 +50,59 @@ module _ (a b : List ℕ) (n : ℕ) (alike : Alike a b n) where
       every-same (λ (j : ℕ). rowFits used (rowAt a j)) (λ (j : ℕ). rowFits used (rowAt b j)) many first
       (λ j k l. ap (rowFits used) (row-alike j (omega arith)))
 
--- a write behind them leaves the first n fives
-pub alike-written : (d : List ℕ) (at : ℕ) (s : List ℕ) (n : ℕ) → 5 * n ≤ at → at ≤ length d → Alike (written d at s) d n
+-- a write behind them leaves the first n numbers
+pub alike-written : (d : List ℕ) (at : ℕ) (s : List ℕ) (n : ℕ) → n ≤ at → at ≤ length d → Alike (written d at s) d n
 alike-written d at s n h k j l = below-written d at s j (omega arith) k
 
--- and behind n fives stand those that were written
-module _ (d : List ℕ) (n : ℕ) (s : List ℕ) (i j : ℕ) (room : 5 * n ≤ length d) (is : i ≡ n + j) (fits : 5 * j + 5 ≤ length s) where
-  number-written : (k : ℕ) → k < 5 → getD (written d (5 * n) s) (5 * i + k) 0 ≡ getD s (5 * j + k) 0
+-- and behind a place stand the numbers that were written there
+module _ (d : List ℕ) (at : ℕ) (s : List ℕ) (place from size : ℕ) (room : at ≤ length d) (is : place ≡ at + from) (fits : from + size ≤ length s) where
+  number-written : (k : ℕ) → k < size → getD (written d at s) (place + k) 0 ≡ getD s (from + k) 0
   number-written k h =
-      let e : 5 * i + k ≡ 5 * n + (5 * j + k) = omega arith in
-      rw e (within-written d (5 * n) s room (5 * j + k) (omega arith))
+      let e : place + k ≡ at + (from + k) = omega arith in
+      rw e (within-written d at s room (from + k) (omega arith))
 
-  first-written : getD (written d (5 * n) s) (5 * i) 0 ≡ getD s (5 * j) 0
-  first-written = simp add-zero at (number-written 0 (omega arith))
+  first-written : 0 < size → getD (written d at s) place 0 ≡ getD s from 0
+  first-written h = simp add-zero at (number-written 0 h)
 
-  pub entry-written : entryAt (written d (5 * n) s) i ≡ entryAt s j
-  unfolding entryAt
-  entry-written =
-      rw (
-        first-written,
-        number-written 1 (omega arith),
-        number-written 2 (omega arith),
-        number-written 3 (omega arith),
-        number-written 4 (omega arith),
-      )
-
-  pub row-written : rowAt (written d (5 * n) s) i ≡ rowAt s j
-  unfolding rowAt
-  row-written =
-      rw (
-        first-written,
-        number-written 1 (omega arith),
-        number-written 2 (omega arith),
-        number-written 3 (omega arith),
-        number-written 4 (omega arith),
-      )
-
-pub one-entry : (a b c d e : ℕ) → entryAt (a ∷ b ∷ c ∷ d ∷ e ∷ []) 0 ≡ record { start = a; length = b; first = c; rows = d; distance = e }
+pub entry-written : (d : List ℕ) (n : ℕ) (s : List ℕ) (i j : ℕ) → entrySize * n ≤ length d → i ≡ n + j → entrySize * j + entrySize ≤ length s
+    → entryAt (written d (entrySize * n) s) i ≡ entryAt s j
 unfolding entryAt
-one-entry a b c d e = refl
+entry-written d n s i j room is fits =
+    let first = first-written d (entrySize * n) s (entrySize * i) (entrySize * j) entrySize room (omega arith) fits in
+    let number = number-written d (entrySize * n) s (entrySize * i) (entrySize * j) entrySize room (omega arith) fits in
+    rw (first (omega arith), number 1 (omega arith), number 2 (omega arith), number 3 (omega arith), number 4 (omega arith))
 
--- five numbers that stand in a table are an entry, and a row
-module _ (table : List ℕ) (i a b c d e : ℕ) (five : Holds table (5 * i) (a ∷ b ∷ c ∷ d ∷ e ∷ [])) where
-  number-holds : (k : ℕ) → k < 5 → getD table (5 * i + k) 0 ≡ getD (a ∷ b ∷ c ∷ d ∷ e ∷ []) k 0
-  number-holds = holds-at table (5 * i) (a ∷ b ∷ c ∷ d ∷ e ∷ []) five
+pub row-written : (d : List ℕ) (n : ℕ) (s : List ℕ) (i j : ℕ) → rowSize * n ≤ length d → i ≡ n + j → rowSize * j + rowSize ≤ length s
+    → rowAt (written d (rowSize * n) s) i ≡ rowAt s j
+unfolding rowAt
+row-written d n s i j room is fits =
+    let first = first-written d (rowSize * n) s (rowSize * i) (rowSize * j) rowSize room (omega arith) fits in
+    let number = number-written d (rowSize * n) s (rowSize * i) (rowSize * j) rowSize room (omega arith) fits in
+    rw (first (omega arith), number 1 (omega arith), number 2 (omega arith), number 3 (omega arith), number 4 (omega arith))
 
-  first-holds : getD table (5 * i) 0 ≡ a
-  first-holds = simp add-zero at (number-holds 0 (omega arith))
+pub one-entry : (e : Entry) → entryAt (entryNumbers e) 0 ≡ e
+unfolding entryAt
+one-entry e = refl
 
-  pub entry-holds : entryAt table i ≡ record { start = a; length = b; first = c; rows = d; distance = e }
-  unfolding entryAt
-  entry-holds = rw (first-holds, number-holds 1 (omega arith), number-holds 2 (omega arith), number-holds 3 (omega arith), number-holds 4 (omega arith))
+-- numbers that stand at a place of a table
+first-holds : (table : List ℕ) (at a : ℕ) (s : List ℕ) → Holds table at (a ∷ s) → getD table at 0 ≡ a
+first-holds table at a s h = simp add-zero at (holds-at table at (a ∷ s) h 0 (omega arith))
 
-  pub row-holds : rowAt table i ≡ record { kind = a; number = b; width = c; start = d; length = e }
-  unfolding rowAt
-  row-holds = rw (first-holds, number-holds 1 (omega arith), number-holds 2 (omega arith), number-holds 3 (omega arith), number-holds 4 (omega arith))
+-- where an entry's numbers stand is that entry, and so with a row's
+pub entry-holds : (table : List ℕ) (i : ℕ) (e : Entry) → Holds table (entrySize * i) (entryNumbers e) → entryAt table i ≡ e
+unfolding entryAt
+entry-holds table i e h =
+    let number = holds-at table (entrySize * i) (entryNumbers e) h in
+    rw (first-holds table (entrySize * i) _ _ h, number 1 (omega arith), number 2 (omega arith), number 3 (omega arith), number 4 (omega arith))
+
+pub row-holds : (table : List ℕ) (i : ℕ) (r : Row) → Holds table (rowSize * i) (rowNumbers r) → rowAt table i ≡ r
+unfolding rowAt
+row-holds table i r h =
+    let number = holds-at table (rowSize * i) (rowNumbers r) h in
+    rw (first-holds table (rowSize * i) _ _ h, number 1 (omega arith), number 2 (omega arith), number 3 (omega arith), number 4 (omega arith))
 
 -- what pointed inside still does when more is kept behind it
-pub entry-more : (s more : State) (a b : List ℕ) → s .text ≤ more .text → s .rows ≤ more .rows → Alike a b (s .rows)
+pub entry-more : (s more : State) (a b : List ℕ) → s .text ≤ more .text → s .rows ≤ more .rows → Alike a b (rowSize * s .rows)
     → (e : Entry) → EntryInside s a e → EntryInside more b e
 entry-more s more a b h k alike e t =
     let x = t .text in
@@ -121,7 +116,7 @@ entry-more s more a b h k alike e t =
     }
 
 pub earlier-more : (m more : Kept) (n : ℕ) → m .state .text ≤ more .state .text → m .state .rows ≤ more .state .rows
-    → Alike (m .names) (more .names) n → Alike (m .rows) (more .rows) (m .state .rows) → (i : ℕ) → i < n → Earlier m i → Earlier more i
+    → Alike (m .names) (more .names) (entrySize * n) → Alike (m .rows) (more .rows) (rowSize * m .state .rows) → (i : ℕ) → i < n → Earlier m i → Earlier more i
 earlier-more m more n h k names rows i l t =
     subst (λ (e : Entry). EntryInside (more .state) (more .rows) e) (entry-alike (m .names) (more .names) n names i l)
     (entry-more (m .state) (more .state) (m .rows) (more .rows) h k rows (entryAt (m .names) i) t)

@@ -5,7 +5,7 @@ use native.Mathlib.Omega.{arith}
 use lib.ListN.{take}
 use Rattle.base.specs.Memory.{part}
 use Rattle.base.proofs.Below.{same-at, same-below, same-part}
-use Rattle.kept.specs.Tables.{Kept, entryAt, rowAt}
+use Rattle.kept.specs.Tables.{Kept, entrySize, rowSize, entryAt, rowAt}
 use Rattle.kept.proofs.Frame.{entry-alike, row-alike}
 
 pub record Later (m w : Kept) : Type 0 where
@@ -13,8 +13,8 @@ pub record Later (m w : Kept) : Type 0 where
   pub text : m .state .text ≤ w .state .text
   pub rows : m .state .rows ≤ w .state .rows
   pub in-text : take (m .state .text) (w .text) ≡ take (m .state .text) (m .text)
-  pub in-names : take (5 * m .state .names) (w .names) ≡ take (5 * m .state .names) (m .names)
-  pub in-rows : take (5 * m .state .rows) (w .rows) ≡ take (5 * m .state .rows) (m .rows)
+  pub in-names : take (entrySize * m .state .names) (w .names) ≡ take (entrySize * m .state .names) (m .names)
+  pub in-rows : take (rowSize * m .state .rows) (w .rows) ≡ take (rowSize * m .state .rows) (m .rows)
 
 pub later-same : (m : Kept) → Later m m
 later-same m = record { names = omega arith; text = omega arith; rows = omega arith; in-text = refl; in-names = refl; in-rows = refl }
@@ -28,16 +28,16 @@ later-then a b c p q =
       text = omega (arith, p .text, q .text);
       rows = omega (arith, q .rows);
       in-text = same-below (c .text) (b .text) (b .state .text) (q .in-text) (a .state .text) (p .text) ∙ p .in-text;
-      in-names = same-below (c .names) (b .names) (5 * b .state .names) (q .in-names) (5 * a .state .names) (omega arith) ∙ p .in-names;
-      in-rows = same-below (c .rows) (b .rows) (5 * b .state .rows) (q .in-rows) (5 * a .state .rows) (omega arith) ∙ p .in-rows;
+      in-names = same-below (c .names) (b .names) (entrySize * b .state .names) (q .in-names) (entrySize * a .state .names) (omega arith) ∙ p .in-names;
+      in-rows = same-below (c .rows) (b .rows) (rowSize * b .state .rows) (q .in-rows) (rowSize * a .state .rows) (omega arith) ∙ p .in-rows;
     }
 
 module _ (m w : Kept) (h : Later m w) where
   pub entry-later : (i : ℕ) → i < m .state .names → entryAt (w .names) i ≡ entryAt (m .names) i
-  entry-later = entry-alike (w .names) (m .names) (m .state .names) (same-at (w .names) (m .names) (5 * m .state .names) (h .in-names))
+  entry-later = entry-alike (w .names) (m .names) (m .state .names) (same-at (w .names) (m .names) (entrySize * m .state .names) (h .in-names))
 
   pub row-later : (i : ℕ) → i < m .state .rows → rowAt (w .rows) i ≡ rowAt (m .rows) i
-  row-later = row-alike (w .rows) (m .rows) (m .state .rows) (same-at (w .rows) (m .rows) (5 * m .state .rows) (h .in-rows))
+  row-later = row-alike (w .rows) (m .rows) (m .state .rows) (same-at (w .rows) (m .rows) (rowSize * m .state .rows) (h .in-rows))
 
   pub part-later : (from to : ℕ) → from ≤ to → to ≤ m .state .text → part (w .text) from to ≡ part (m .text) from to
   part-later = same-part (w .text) (m .text) (m .state .text) (h .in-text)

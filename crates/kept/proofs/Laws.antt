@@ -1,10 +1,11 @@
 -- What the judgement tells, and what makes it pass.
 use Prim.Native.Nat.{ℕ, _+_, _*_, _≤_, _<_}
-use mathlib.Core.Path.{_≡_, refl, sym, _∙_}
+use mathlib.Core.Path.{_≡_, refl, sym, subst, _∙_}
 use mathlib.Core.Bool.{true}
 use mathlib.Core.List.{List}
 use mathlib.Core.Logic.{inl, inr, ⊎-elim}
 use native.Mathlib.Omega.{arith}
+use native.Mathlib.Nat.{mul-comm, le-div-iff-mul-le}
 use borrow.Author.Tests.{leb-true, le-leb, eqb-true, eqb-false, eq-eqb, ne-eqb}
 use lib.Dec.{leb, eqb}
 use lib.ListN.{length}
@@ -16,21 +17,22 @@ use Rattle.block.specs.declared.State.{State}
 use Rattle.block.specs.Block.{state}
 use Rattle.kept.specs.declared.Entry.{Entry}
 use Rattle.kept.specs.declared.Row.{Row}
-use Rattle.kept.specs.Tables.{Kept, keeping, room, rowAt}
+use Rattle.kept.specs.Tables.{Kept, entrySize, rowSize, keeping, room, rowAt}
 use Rattle.kept.specs.Judgement.{textCounts, rowCounts, counts, entryText, entryRows, rowKind, rowFits, rowsFit, earlierFits}
 use Rattle.kept.specs.Inside.{TextCounted, RowCounted, Counted, TextInside, RowsInside, KindInside, RowInside, Earlier}
 
--- how many fives a table has
-pub room-holds : (t : List ℕ) (k : ℕ) → k ≤ room t → 5 * k ≤ length t
-unfolding room
-room-holds t k h = omega arith
+-- how many of a size a table has room for
+module _ (size : ℕ) (some : 0 < size) (t : List ℕ) (k : ℕ) where
+  pub room-holds : k ≤ room size t → size * k ≤ length t
+  unfolding room
+  room-holds h = subst (λ (n : ℕ). n ≤ length t) (mul-comm k size) (le-div-iff-mul-le {k = size} {x = k} {y = length t} some .0 h)
 
-pub room-of : (t : List ℕ) (k : ℕ) → 5 * k ≤ length t → k ≤ room t
-unfolding room
-room-of t k h = omega arith
+  pub room-of : size * k ≤ length t → k ≤ room size t
+  unfolding room
+  room-of h = le-div-iff-mul-le {k = size} {x = k} {y = length t} some .1 (subst (λ (n : ℕ). n ≤ length t) (mul-comm size k) h)
 
 module _ (s : State) (text names : List ℕ) where
-  pub text-counted : textCounts s (length text) (room names) ≡ true → TextCounted s text names
+  pub text-counted : textCounts s (length text) (room entrySize names) ≡ true → TextCounted s text names
   unfolding textCounts
   text-counted e =
       let a = both-true _ _ e in
@@ -40,30 +42,30 @@ module _ (s : State) (text names : List ℕ) where
       record {
         kept = leb-true _ _ (a .0);
         limit = leb-true _ _ (c .0);
-        entries = room-holds _ _ (leb-true _ _ (b .0));
+        entries = room-holds entrySize (omega arith) _ _ (leb-true _ _ (b .0));
         used = leb-true _ _ (d .0);
         most = leb-true _ _ (d .1);
       }
 
-  pub text-counts-of : TextCounted s text names → textCounts s (length text) (room names) ≡ true
+  pub text-counts-of : TextCounted s text names → textCounts s (length text) (room entrySize names) ≡ true
   unfolding textCounts
   text-counts-of t =
       both-of (le-leb _ _ (t .kept))
-      (both-of (le-leb _ _ (room-of _ _ (t .entries)))
+      (both-of (le-leb _ _ (room-of entrySize (omega arith) _ _ (t .entries)))
       (both-of (le-leb _ _ (t .limit))
       (both-of (le-leb _ _ (t .used))
       (le-leb _ _ (t .most)))))
 
 module _ (s : State) (rows : List ℕ) where
-  pub row-counted : rowCounts s (room rows) ≡ true → RowCounted s rows
+  pub row-counted : rowCounts s (room rowSize rows) ≡ true → RowCounted s rows
   unfolding rowCounts
   row-counted e =
       let a = both-true _ _ e in
-      record { rowsUsed = room-holds _ _ (leb-true _ _ (a .0)); rowsMost = leb-true _ _ (a .1) }
+      record { rowsUsed = room-holds rowSize (omega arith) _ _ (leb-true _ _ (a .0)); rowsMost = leb-true _ _ (a .1) }
 
-  pub row-counts-of : RowCounted s rows → rowCounts s (room rows) ≡ true
+  pub row-counts-of : RowCounted s rows → rowCounts s (room rowSize rows) ≡ true
   unfolding rowCounts
-  row-counts-of t = both-of (le-leb _ _ (room-of _ _ (t .rowsUsed))) (le-leb _ _ (t .rowsMost))
+  row-counts-of t = both-of (le-leb _ _ (room-of rowSize (omega arith) _ _ (t .rowsUsed))) (le-leb _ _ (t .rowsMost))
 
 module _ (m : Kept) where
   pub counted : counts m ≡ true → Counted m

@@ -9,29 +9,29 @@ use Rattle.digits.specs.Digits.{fitsWidth}
 use Rattle.block.specs.declared.State.{State}
 use Rattle.kept.specs.declared.Entry.{Entry}
 use Rattle.kept.specs.declared.Row.{Row}
-use Rattle.kept.specs.Tables.{Kept, entryAt, rowAt}
+use Rattle.kept.specs.Tables.{Kept, entrySize, rowSize, entryAt, rowAt}
 
 -- textCounts, of a text buffer and a table of names
 pub record TextCounted (s : State) (text names : List ℕ) : Type 0 where
   pub kept : s .names ≤ s .count
   pub limit : s .count ≤ 65536
-  pub entries : 5 * s .names ≤ length names
+  pub entries : entrySize * s .names ≤ length names
   pub used : s .text ≤ length text
   pub most : s .text ≤ 255 * s .names
 
 -- rowCounts, of a table of rows
 pub record RowCounted (s : State) (rows : List ℕ) : Type 0 where
-  pub rowsUsed : 5 * s .rows ≤ length rows
+  pub rowsUsed : rowSize * s .rows ≤ length rows
   pub rowsMost : s .rows ≤ 127 * s .names
 
 -- counts
 pub record Counted (m : Kept) : Type 0 where
   pub kept : m .state .names ≤ m .state .count
   pub limit : m .state .count ≤ 65536
-  pub entries : 5 * m .state .names ≤ length (m .names)
+  pub entries : entrySize * m .state .names ≤ length (m .names)
   pub used : m .state .text ≤ length (m .text)
   pub most : m .state .text ≤ 255 * m .state .names
-  pub rowsUsed : 5 * m .state .rows ≤ length (m .rows)
+  pub rowsUsed : rowSize * m .state .rows ≤ length (m .rows)
   pub rowsMost : m .state .rows ≤ 127 * m .state .names
 
 -- entryText

@@ -10,7 +10,7 @@ use Rattle.digits.specs.Digits.{fitsWidth}
 use Rattle.block.specs.declared.State.{State}
 use Rattle.kept.specs.declared.Entry.{Entry}
 use Rattle.kept.specs.declared.Row.{Row}
-use Rattle.kept.specs.Tables.{Kept, room, entryAt, rowAt}
+use Rattle.kept.specs.Tables.{Kept, entrySize, rowSize, room, entryAt, rowAt}
 
 -- k above the count or the entries of its table, the count above 65,536,
 -- text used above its buffer or above 255 times k: the counts that a claim is judged by too
@@ -27,7 +27,7 @@ unfoldable pub rowCounts : State → ℕ → Bool
 rowCounts s rows = both (leb (s .rows) rows) (leb (s .rows) (127 * s .names))
 
 unfoldable pub counts : Kept → Bool
-counts m = both (textCounts (m .state) (length (m .text)) (room (m .names))) (rowCounts (m .state) (room (m .rows)))
+counts m = both (textCounts (m .state) (length (m .text)) (room entrySize (m .names))) (rowCounts (m .state) (room rowSize (m .rows)))
 
 -- in an entry, a text of 0 or more than 254 bytes, text beyond the used part
 unfoldable pub entryText : State → Entry → Bool

@@ -4,8 +4,9 @@ ghost use mathlib.Core.Path.{_≡_};
 ghost use mathlib.Core.List.{[]};
 ghost use Prim.Native.Nat.{_≤_, _+_, _*_, _/_};
 ghost use lib.ListN.{length};
-ghost use Rattle.kept.specs.Tables.{keeping};
+ghost use Rattle.kept.specs.Tables.{entrySize, rowSize, keeping};
 ghost use Rattle.kept.specs.Judgement.{textCounts, rowCounts, counts, entryText, entryRows, rowKind, rowFits, rowsFit, earlierFits};
+ghost use Rattle.base.specs.Lent.{lent};
 use crate::Entry;
 use crate::Row;
 use crate::tables;
@@ -18,26 +19,26 @@ const ROWS: u32 = Block::TOKENS - 1;
 const TEXT: u32 = Block::BYTES + 1;
 
 pub fn text_counts(s: State, bytes: usize, numbers: usize) -> bool
-    ensures { λ r. ⌜ r ≡ textCounts s bytes (numbers / 5) ⌝ }
+    ensures { λ r. ⌜ r ≡ textCounts s bytes (numbers / entrySize) ⌝ }
 {
     let k = s.names as u64;
     let used = s.text as u64;
     (s.names <= s.count)
-        & (k <= (numbers / 5) as u64)
+        & (k <= (numbers / tables::ENTRY) as u64)
         & (s.count <= Block::NAMES)
         & (used <= bytes as u64)
         & (used <= TEXT as u64 * k)
 }
 
 fn row_counts(s: State, numbers: usize) -> bool
-    ensures { λ r. ⌜ r ≡ rowCounts s (numbers / 5) ⌝ }
+    ensures { λ r. ⌜ r ≡ rowCounts s (numbers / rowSize) ⌝ }
 {
     let used = s.rows as u64;
-    (used <= (numbers / 5) as u64) & (used <= ROWS as u64 * s.names as u64)
+    (used <= (numbers / tables::ROW) as u64) & (used <= ROWS as u64 * s.names as u64)
 }
 
 pub fn counts(s: State, text: &[u8], names: &[u32], rows: &[u32]) -> bool
-    ensures { λ r. ⌜ r ≡ counts (keeping s (now (text .entry)) (now (names .entry)) (now (rows .entry))) ⌝ }
+    ensures { λ r. ⌜ r ≡ counts (keeping s (lent text) (lent names) (lent rows)) ⌝ }
 {
     text_counts(s, text.len(), names.len()) & row_counts(s, rows.len())
 }
@@ -76,8 +77,8 @@ pub fn row_fits(used: u32, r: Row) -> bool
 
 // No way out inside the loop: in a sound table every row is looked at.
 pub fn rows_fit(used: u32, rows: &[u32], first: u32, many: u32) -> bool
-    requires { ⌜ (first + many ≤ 4294967295) × (5 * (first + many) ≤ length (now rows)) ⌝ }
-    ensures { λ r. ⌜ r ≡ rowsFit used (now (rows .entry)) first many ⌝ }
+    requires { ⌜ (first + many ≤ 4294967295) × (rowSize * (first + many) ≤ length (now rows)) ⌝ }
+    ensures { λ r. ⌜ r ≡ rowsFit used (lent rows) first many ⌝ }
 {
     let end = first + many;
     let mut ok = true;
@@ -91,8 +92,8 @@ pub fn rows_fit(used: u32, rows: &[u32], first: u32, many: u32) -> bool
 
 // The text itself isn't looked at: the judgement is the same whatever it holds.
 pub fn earlier_fits(s: State, names: &[u32], rows: &[u32], i: u32) -> bool
-    requires { ⌜ (5 * i + 5 ≤ length (now names)) × (5 * s .rows ≤ length (now rows)) ⌝ }
-    ensures { λ r. ⌜ r ≡ earlierFits (keeping s [] (now (names .entry)) (now (rows .entry))) i ⌝ }
+    requires { ⌜ (entrySize * i + entrySize ≤ length (now names)) × (rowSize * s .rows ≤ length (now rows)) ⌝ }
+    ensures { λ r. ⌜ r ≡ earlierFits (keeping s [] (lent names) (lent rows)) i ⌝ }
 {
     let e = tables::entry_at(names, i);
     if entry_text(s, e) & entry_rows(s, e) {

@@ -1,4 +1,4 @@
-// The kept tables: five numbers a name, five a row, and the judgement of what they say.
+// The kept tables: so many numbers a name, so many a row, and the judgement of what they say.
 // Refusal 13 is given where that points outside.
 pub mod judgement;
 pub mod tables;

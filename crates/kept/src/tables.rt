@@ -1,16 +1,23 @@
-// The numbers of a table, five at a time. Places are counted in usize, since five times a number may be past 2^32.
+// The numbers of a name's entry and of a row: how many they are, and a function that reads each and one that puts it (`row_at` is `row_in` for a row's number as tables have it).
+// Places are counted in usize, since a size times a number may be past 2^32.
 ghost use mathlib.Core.Path.{_≡_};
 ghost use Prim.Native.Nat.{_≤_, _+_, _*_};
 ghost use lib.ListN.{length};
-ghost use Rattle.kept.specs.Tables.{entryAt, rowAt};
+ghost use Rattle.base.specs.Memory.{written};
+ghost use Rattle.kept.specs.Tables.{entrySize, rowSize, entryAt, rowAt, entryNumbers, rowNumbers};
+ghost use Rattle.base.specs.Lent.{lent, left};
 use crate::Entry;
 use crate::Row;
 
+pub const ENTRY: usize = 5;
+
+pub const ROW: usize = 5;
+
 pub fn entry_at(names: &[u32], i: u32) -> Entry
-    requires { ⌜ 5 * i + 5 ≤ length (now names) ⌝ }
-    ensures { λ r. ⌜ r ≡ entryAt (now (names .entry)) i ⌝ }
+    requires { ⌜ entrySize * i + entrySize ≤ length (now names) ⌝ }
+    ensures { λ r. ⌜ r ≡ entryAt (lent names) i ⌝ }
 {
-    let at = 5 * (i as usize);
+    let at = ENTRY * (i as usize);
     Entry {
         start: names[at],
         length: names[at + 1],
@@ -21,10 +28,10 @@ pub fn entry_at(names: &[u32], i: u32) -> Entry
 }
 
 pub fn row_in(rows: &[u32], i: usize) -> Row
-    requires { ⌜ 5 * i + 5 ≤ length (now rows) ⌝ }
-    ensures { λ r. ⌜ r ≡ rowAt (now (rows .entry)) i ⌝ }
+    requires { ⌜ rowSize * i + rowSize ≤ length (now rows) ⌝ }
+    ensures { λ r. ⌜ r ≡ rowAt (lent rows) i ⌝ }
 {
-    let at = 5 * i;
+    let at = ROW * i;
     Row {
         kind: rows[at],
         number: rows[at + 1],
@@ -35,8 +42,30 @@ pub fn row_in(rows: &[u32], i: usize) -> Row
 }
 
 pub fn row_at(rows: &[u32], i: u32) -> Row
-    requires { ⌜ 5 * i + 5 ≤ length (now rows) ⌝ }
-    ensures { λ r. ⌜ r ≡ rowAt (now (rows .entry)) i ⌝ }
+    requires { ⌜ rowSize * i + rowSize ≤ length (now rows) ⌝ }
+    ensures { λ r. ⌜ r ≡ rowAt (lent rows) i ⌝ }
 {
     row_in(rows, i as usize)
+}
+
+pub fn put_entry(names: &mut [u32], i: u32, e: Entry)
+    requires { ⌜ entrySize * i + entrySize ≤ length (now names) ⌝ }
+    ensures { λ _. ⌜ left names ≡ written (lent names) (entrySize * i) (entryNumbers e) ⌝ }
+{
+    base::put_five(
+        names,
+        ENTRY * (i as usize),
+        e.start,
+        e.length,
+        e.first,
+        e.rows,
+        e.distance,
+    );
+}
+
+pub fn put_row(rows: &mut [u32], i: usize, r: Row)
+    requires { ⌜ rowSize * i + rowSize ≤ length (now rows) ⌝ }
+    ensures { λ _. ⌜ left rows ≡ written (lent rows) (rowSize * i) (rowNumbers r) ⌝ }
+{
+    base::put_five(rows, ROW * i, r.kind, r.number, r.width, r.start, r.length);
 }

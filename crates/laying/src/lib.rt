@@ -11,6 +11,7 @@ ghost use Rattle.spans.specs.Spans.{fourBytes};
 ghost use Rattle.block.specs.Block.{endOf};
 ghost use Rattle.laying.specs.Puts.{put};
 ghost use Rattle.laying.specs.Passes.{counts, fills, moved, world, stepOf, Room, cleared, offsetIn, placesOf};
+ghost use Rattle.base.specs.Lent.{lent, left};
 use block::Block;
 
 // What a pass over the puts does: it finds the total, counts each span's size, or fills.
@@ -43,7 +44,7 @@ fn fills_in(pass: Pass) -> bool
 // A span's end moved n bytes on.
 fn advance(pass: Pass, directory: &mut [u32], span: usize, n: u32)
     requires { ⌜ (span < 1290) × ((length (now directory) ≡ 2580) × (counts pass ≡ true → endOf (now directory) span + n < 2 ^ 32)) ⌝ }
-    ensures { λ _. ⌜ now (directory .exit) ≡ pick (counts pass) (moved (now (directory .entry)) span n) (now (directory .entry)) ⌝ }
+    ensures { λ _. ⌜ left directory ≡ pick (counts pass) (moved (lent directory) span n) (lent directory) ⌝ }
 {
     if counts_in(pass) {
         let i = 2 * span + 1;
@@ -54,7 +55,7 @@ fn advance(pass: Pass, directory: &mut [u32], span: usize, n: u32)
 
 fn write_byte(pass: Pass, bytes: &mut [u8], at: usize, b: u8)
     requires { ⌜ (fills pass ≡ true → at + 1 ≤ length (now bytes)) ⌝ }
-    ensures { λ _. ⌜ now (bytes .exit) ≡ pick (fills pass) (written (now (bytes .entry)) at (b ∷ [])) (now (bytes .entry)) ⌝ }
+    ensures { λ _. ⌜ left bytes ≡ pick (fills pass) (written (lent bytes) at (b ∷ [])) (lent bytes) ⌝ }
 {
     if fills_in(pass) {
         base::put_byte(bytes, at, b);
@@ -64,7 +65,7 @@ fn write_byte(pass: Pass, bytes: &mut [u8], at: usize, b: u8)
 // The low byte first.
 fn four_at(bytes: &mut [u8], at: usize, v: u32)
     requires { ⌜ at + 4 ≤ length (now bytes) ⌝ }
-    ensures { λ _. ⌜ now (bytes .exit) ≡ written (now (bytes .entry)) at (fourBytes v) ⌝ }
+    ensures { λ _. ⌜ left bytes ≡ written (lent bytes) at (fourBytes v) ⌝ }
 {
     bytes[at] = (v % 256) as u8;
     bytes[at + 1] = (v / 256 % 256) as u8;
@@ -74,7 +75,7 @@ fn four_at(bytes: &mut [u8], at: usize, v: u32)
 
 fn write_four(pass: Pass, bytes: &mut [u8], at: usize, v: u32)
     requires { ⌜ (fills pass ≡ true → at + 4 ≤ length (now bytes)) ⌝ }
-    ensures { λ _. ⌜ now (bytes .exit) ≡ pick (fills pass) (written (now (bytes .entry)) at (fourBytes v)) (now (bytes .entry)) ⌝ }
+    ensures { λ _. ⌜ left bytes ≡ pick (fills pass) (written (lent bytes) at (fourBytes v)) (lent bytes) ⌝ }
 {
     if fills_in(pass) {
         four_at(bytes, at, v);
@@ -84,7 +85,7 @@ fn write_four(pass: Pass, bytes: &mut [u8], at: usize, v: u32)
 // A text and its zero byte.
 fn text_at(bytes: &mut [u8], at: usize, name: &[u8], from: usize, to: usize)
     requires { ⌜ (from ≤ to) × ((to ≤ length (now name)) × (at + (to - from + 1) ≤ length (now bytes))) ⌝ }
-    ensures { λ _. ⌜ now (bytes .exit) ≡ written (now (bytes .entry)) at (part (now (name .entry)) from to ++ 0 ∷ []) ⌝ }
+    ensures { λ _. ⌜ left bytes ≡ written (lent bytes) at (part (lent name) from to ++ 0 ∷ []) ⌝ }
 {
     base::copy_at(name, from, to, bytes, at);
     base::put_byte(bytes, at + (to - from), 0);
@@ -93,7 +94,7 @@ fn text_at(bytes: &mut [u8], at: usize, name: &[u8], from: usize, to: usize)
 fn write_text(pass: Pass, bytes: &mut [u8], at: usize, name: &[u8], from: usize, to: usize)
     requires { ⌜ (from ≤ to) × (to ≤ length (now name)) ⌝ }
     requires { ⌜ (fills pass ≡ true → at + (to - from + 1) ≤ length (now bytes)) ⌝ }
-    ensures { λ _. ⌜ now (bytes .exit) ≡ pick (fills pass) (written (now (bytes .entry)) at (part (now (name .entry)) from to ++ 0 ∷ [])) (now (bytes .entry)) ⌝ }
+    ensures { λ _. ⌜ left bytes ≡ pick (fills pass) (written (lent bytes) at (part (lent name) from to ++ 0 ∷ [])) (lent bytes) ⌝ }
 {
     if fills_in(pass) {
         text_at(bytes, at, name, from, to);
@@ -109,7 +110,7 @@ pub fn put_byte(
     b: u8,
 ) -> u32
     requires { ⌜ Room pass span 1 (world total (now directory) (now bytes)) ⌝ }
-    ensures { λ r. ⌜ world r (now (directory .exit)) (now (bytes .exit)) ≡ stepOf pass (put span (b ∷ [])) (world total (now (directory .entry)) (now (bytes .entry))) ⌝ }
+    ensures { λ r. ⌜ world r (left directory) (left bytes) ≡ stepOf pass (put span (b ∷ [])) (world total (lent directory) (lent bytes)) ⌝ }
 {
     let at = directory[2 * span + 1] as usize;
     write_byte(pass, bytes, at, b);
@@ -126,7 +127,7 @@ pub fn put_four(
     v: u32,
 ) -> u32
     requires { ⌜ Room pass span 4 (world total (now directory) (now bytes)) ⌝ }
-    ensures { λ r. ⌜ world r (now (directory .exit)) (now (bytes .exit)) ≡ stepOf pass (put span (fourBytes v)) (world total (now (directory .entry)) (now (bytes .entry))) ⌝ }
+    ensures { λ r. ⌜ world r (left directory) (left bytes) ≡ stepOf pass (put span (fourBytes v)) (world total (lent directory) (lent bytes)) ⌝ }
 {
     let at = directory[2 * span + 1] as usize;
     write_four(pass, bytes, at, v);
@@ -146,7 +147,7 @@ pub fn put_text(
 ) -> u32
     requires { ⌜ (from ≤ to) × (to ≤ length (now name)) ⌝ }
     requires { ⌜ Room pass span (to - from + 1) (world total (now directory) (now bytes)) ⌝ }
-    ensures { λ r. ⌜ world r (now (directory .exit)) (now (bytes .exit)) ≡ stepOf pass (put span (part (now (name .entry)) from to ++ 0 ∷ [])) (world total (now (directory .entry)) (now (bytes .entry))) ⌝ }
+    ensures { λ r. ⌜ world r (left directory) (left bytes) ≡ stepOf pass (put span (part (lent name) from to ++ 0 ∷ [])) (world total (lent directory) (lent bytes)) ⌝ }
 {
     let at = directory[2 * span + 1] as usize;
     write_text(pass, bytes, at, name, from, to);
@@ -158,7 +159,7 @@ pub fn put_text(
 // A directory of empty spans.
 pub fn clear(directory: &mut [u32])
     requires { ⌜ length (now directory) ≡ 2580 ⌝ }
-    ensures { λ _. ⌜ now (directory .exit) ≡ cleared ⌝ }
+    ensures { λ _. ⌜ left directory ≡ cleared ⌝ }
 {
     let mut i: usize = 0;
     while i < directory.len() {
@@ -170,7 +171,7 @@ pub fn clear(directory: &mut [u32])
 // Sizes made places: each span's start, and its end where its first byte goes.
 pub fn lay_out(directory: &mut [u32])
     requires { ⌜ (length (now directory) ≡ 2580) × (offsetIn (now directory) 1290 < 2 ^ 32) ⌝ }
-    ensures { λ _. ⌜ now (directory .exit) ≡ placesOf (now (directory .entry)) ⌝ }
+    ensures { λ _. ⌜ left directory ≡ placesOf (lent directory) ⌝ }
 {
     let mut at: u32 = 0;
     let mut i: usize = 0;

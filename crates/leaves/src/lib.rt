@@ -10,8 +10,9 @@ ghost use Rattle.digits.specs.Digits.{printed, padded, fitsWidth};
 ghost use Rattle.classes.specs.Classes.{classOf};
 ghost use Rattle.spans.specs.Spans.{byteAt, fourAt, textAt};
 ghost use Rattle.block.specs.Block.{sound, allInside};
-ghost use Rattle.lines.specs.Listing.{listedOf};
+ghost use Rattle.listed.specs.Listing.{listedOf};
 ghost use Rattle.leaves.specs.Leaves.{nothing, leaves, placed, byteNumber, fourLeft, textNumber};
+ghost use Rattle.base.specs.Lent.{lent, left};
 use block::Verdict;
 use spans::Cursor;
 use spans::NextByte;
@@ -31,7 +32,7 @@ fn has_room(len: usize, at: usize, n: usize) -> bool
 
 #[no_mangle]
 pub extern "C" fn leaf_print(n: u32, buf: &mut [u8], at: usize) -> u64
-    ensures { λ r. ⌜ leaves r (now (buf .exit)) ≡ placed true (printed n) at (now (buf .entry)) ⌝ }
+    ensures { λ r. ⌜ leaves r (left buf) ≡ placed true (printed n) at (lent buf) ⌝ }
 {
     let w = digits::count(n);
     if has_room(buf.len(), at, w) {
@@ -43,7 +44,7 @@ pub extern "C" fn leaf_print(n: u32, buf: &mut [u8], at: usize) -> u64
 
 #[no_mangle]
 pub extern "C" fn leaf_print_padded(n: u32, width: u32, buf: &mut [u8], at: usize) -> u64
-    ensures { λ r. ⌜ leaves r (now (buf .exit)) ≡ placed (both (leb width 254) (fitsWidth n width)) (padded n width) at (now (buf .entry)) ⌝ }
+    ensures { λ r. ⌜ leaves r (left buf) ≡ placed (both (leb width 254) (fitsWidth n width)) (padded n width) at (lent buf) ⌝ }
 {
     if 254 < width {
         return NOTHING;
@@ -74,7 +75,7 @@ pub extern "C" fn leaf_class(b: u8) -> u32
 
 #[no_mangle]
 pub extern "C" fn leaf_byte(bytes: &[u8], at: u32, end: u32) -> u64
-    ensures { λ r. ⌜ r ≡ pick (leb end (length (now (bytes .entry)))) (byteNumber (byteAt (now (bytes .entry)) at end)) nothing ⌝ }
+    ensures { λ r. ⌜ r ≡ pick (leb end (length (lent bytes))) (byteNumber (byteAt (lent bytes) at end)) nothing ⌝ }
 {
     if bytes.len() < end as usize {
         return NOTHING;
@@ -87,7 +88,7 @@ pub extern "C" fn leaf_byte(bytes: &[u8], at: u32, end: u32) -> u64
 
 #[no_mangle]
 pub extern "C" fn leaf_four(bytes: &[u8], at: u32, end: u32, next: &mut [u32; 1]) -> u64
-    ensures { λ r. ⌜ leaves r (now (next .exit)) ≡ pick (leb end (length (now (bytes .entry)))) (fourLeft (now (next .entry)) (fourAt (now (bytes .entry)) at end)) (leaves nothing (now (next .entry))) ⌝ }
+    ensures { λ r. ⌜ leaves r (left next) ≡ pick (leb end (length (lent bytes))) (fourLeft (lent next) (fourAt (lent bytes) at end)) (leaves nothing (lent next)) ⌝ }
 {
     if bytes.len() < end as usize {
         return NOTHING;
@@ -103,7 +104,7 @@ pub extern "C" fn leaf_four(bytes: &[u8], at: u32, end: u32, next: &mut [u32; 1]
 
 #[no_mangle]
 pub extern "C" fn leaf_text(bytes: &[u8], at: u32, end: u32) -> u64
-    ensures { λ r. ⌜ r ≡ pick (leb end (length (now (bytes .entry)))) (textNumber (textAt (now (bytes .entry)) at end)) nothing ⌝ }
+    ensures { λ r. ⌜ r ≡ pick (leb end (length (lent bytes))) (textNumber (textAt (lent bytes) at end)) nothing ⌝ }
 {
     if bytes.len() < end as usize {
         return NOTHING;
@@ -120,7 +121,7 @@ pub extern "C" fn leaf_text(bytes: &[u8], at: u32, end: u32) -> u64
 
 #[no_mangle]
 pub extern "C" fn leaf_judge(bytes: &[u8], directory: &[u32], cursors: &[u32]) -> u32
-    ensures { λ r. ⌜ r ≡ pick (sound (length (now (bytes .entry))) (now (directory .entry)) (now (cursors .entry))) (pick (allInside (now (directory .entry)) (now (cursors .entry))) 0 13) 1 ⌝ }
+    ensures { λ r. ⌜ r ≡ pick (sound (length (lent bytes)) (lent directory) (lent cursors)) (pick (allInside (lent directory) (lent cursors)) 0 13) 1 ⌝ }
 {
     match block::judge(bytes, directory, cursors) {
         Verdict::Unsound => 1,
@@ -132,10 +133,10 @@ pub extern "C" fn leaf_judge(bytes: &[u8], directory: &[u32], cursors: &[u32]) -
 // The listing of an input, which users have as a program; nothing where the buffer may not have room for it.
 #[no_mangle]
 pub extern "C" fn leaf_list(input: &[u8], out: &mut [u8]) -> u64
-    ensures { λ r. ⌜ leaves r (now (out .exit)) ≡ placed (leb 131072 (length (now (out .entry)))) (listedOf (now (input .entry))) 0 (now (out .entry)) ⌝ }
+    ensures { λ r. ⌜ leaves r (left out) ≡ placed (leb 131072 (length (lent out))) (listedOf (lent input)) 0 (lent out) ⌝ }
 {
     if out.len() < 131072 {
         return NOTHING;
     }
-    lines::list(input, out) as u64
+    listed::list(input, out) as u64
 }

@@ -1,6 +1,3 @@
-pub mod Pages
-pub mod Texts
+pub mod Laws
 pub mod Walks
-pub mod Answers
 pub mod Bounds
-pub mod Cases

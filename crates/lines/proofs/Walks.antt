@@ -6,17 +6,18 @@ use native.Mathlib.Omega.{arith}
 use lib.ListN.{length, drop}
 use Rattle.base.specs.Memory.{part}
 use Rattle.base.proofs.Lists.{part-none}
-use Rattle.splitting.specs.declared.Choice.{Choice}
-use Rattle.splitting.specs.declared.Choice.the-variants.{End}
+use Rattle.choices.specs.declared.Choice.{Choice}
+use Rattle.choices.specs.declared.Choice.the-variants.{End}
 use Rattle.splitting.specs.Split.{cutAt}
-use Rattle.splitting.specs.Choices.{choiceAt, choicesFrom, choicesOf}
+use Rattle.choices.specs.Choices.{choiceAt, choicesFrom, choicesOf}
 use Rattle.splitting.proofs.Runs.{cut-range, cut-before}
-use Rattle.writing.specs.Names.{namesAfter, namesOf, NameAt}
-use Rattle.writing.proofs.Walks.{Standing, stand-first, stand-next, none-left}
-use Rattle.lines.specs.Page.{Page, said, HasRoom}
-use Rattle.lines.specs.Lines.{choiceText, tokensText, lineOf, linesFrom, linesOf}
-use Rattle.lines.proofs.Pages.{first-room, next-room, said-next, said-none}
-use Rattle.lines.proofs.Texts.{tokens-more, tokens-end, lines-none, lines-more}
+use Rattle.inputs.specs.Inputs.{namesAfter, namesOf, NameAt}
+use Rattle.inputs.proofs.Standing.{Standing, stand-first, stand-next, none-left}
+use Rattle.pages.specs.Page.{Page, said, HasRoom}
+use Rattle.texts.specs.Texts.{choiceText}
+use Rattle.lines.specs.Lines.{tokensText, lineOf, linesFrom, linesOf}
+use Rattle.pages.proofs.Pages.{first-room, next-room, said-next, said-none}
+use Rattle.lines.proofs.Laws.{tokens-more, tokens-end, lines-none, lines-more}
 
 -- the tokens of s after r, from position p on
 pub record Walking (r s : List ℕ) (w₀ w : Page) (p a b : ℕ) : Type 0 where

@@ -1,4 +1,1 @@
-pub mod Words
-pub mod Page
 pub mod Lines
-pub mod Listing

@@ -1,43 +1,14 @@
 -- "A line a name: its number, DIFF or DUP with the distance, then each token as written, its type and its text or number."
 use Prim.Native.Nat.{ℕ, _+_}
 use mathlib.Core.List.{List, [], _∷_, _++_}
-use Rattle.base.specs.Memory.{part}
 use Rattle.digits.specs.Digits.{printed}
-use Rattle.tokens.specs.declared.Padded.{Padded}
-use Rattle.splitting.specs.declared.Piece.{Piece}
-use Rattle.splitting.specs.declared.Piece.the-variants.{String, Char, Digits, Digits0}
-use Rattle.splitting.specs.declared.Choice.{Choice}
-use Rattle.splitting.specs.declared.Choice.the-variants.{Itself, Delta, Delta0, Match, End}
-use Rattle.splitting.specs.declared.Reference.{Reference}
-use Rattle.splitting.specs.declared.Reference.the-variants.{Dup, Diff}
-use Rattle.splitting.specs.Choices.{choicesOf, referenceOf, leansOn}
-use Rattle.lines.specs.Words.{stringWord, charWord, digitsWord, digits0Word, slash, deltaWord, delta0Word, matchWord, endWord, dupWord, diffWord, newline}
-
--- a STRING of s, from one place to another
-unfoldable pub stringText : List ℕ → ℕ → ℕ → List ℕ
-stringText s a e = stringWord ++ part s a e
-
-unfoldable pub charText : ℕ → List ℕ
-charText b = charWord ++ b ∷ []
-
--- DIGITS0 as number/width
-unfoldable pub paddedText : Padded → List ℕ
-paddedText x = (digits0Word ++ printed (x .number)) ++ (slash ++ printed (x .width))
-
--- a token of s that is written itself
-unfoldable pub pieceText : List ℕ → Piece → List ℕ
-pieceText s (String a e) = stringText s a e
-pieceText s (Char b) = charText b
-pieceText s (Digits n) = digitsWord ++ printed n
-pieceText s (Digits0 x) = paddedText x
-
--- MATCH and END alone
-unfoldable pub choiceText : List ℕ → Choice → List ℕ
-choiceText s (Itself t) = pieceText s t
-choiceText s (Delta d) = deltaWord ++ printed d
-choiceText s (Delta0 d) = delta0Word ++ printed d
-choiceText s Match = matchWord
-choiceText s End = endWord
+use Rattle.choices.specs.declared.Choice.{Choice}
+use Rattle.references.specs.declared.Reference.{Reference}
+use Rattle.references.specs.declared.Reference.the-variants.{Dup, Diff}
+use Rattle.choices.specs.Choices.{choicesOf}
+use Rattle.references.specs.References.{referenceOf, leansOn}
+use Rattle.texts.specs.Words.{dupWord, diffWord, newline}
+use Rattle.texts.specs.Texts.{choiceText}
 
 unfoldable pub tokensText : List ℕ → List Choice → List ℕ
 tokensText s [] = []

@@ -1,97 +1,114 @@
-// The listing of an input: a line a name, as the writer writes it, and the totals; or the writer's refusal.
-// Each function puts a text behind what is written and answers the place behind it.
+// A line a name: its number, DIFF or DUP with the distance, then each token as written.
 ghost use mathlib.Core.Path.{_≡_};
+ghost use mathlib.Core.Bool.{true};
+ghost use mathlib.Core.List.{_++_};
 ghost use Prim.Native.Nat.{_≤_};
 ghost use lib.ListN.{length};
-ghost use Rattle.base.specs.Memory.{written};
+ghost use Rattle.digits.specs.Digits.{printed};
 ghost use Rattle.classes.specs.Classes.{classTable};
-ghost use Rattle.laying.specs.Puts.{totalOf};
-ghost use Rattle.writing.specs.Names.{namesOf};
-ghost use Rattle.writing.specs.NamePuts.{putsOf};
-ghost use Rattle.lines.specs.Page.{page, said, HasRoom};
-ghost use Rattle.lines.specs.Listing.{refusalText, totalsText, listedOf, Good};
-use block::Block;
-use block::Refusal;
-use laying::Pass;
-use writing::Judged;
+ghost use Rattle.choices.specs.Choices.{choicesOf};
+ghost use Rattle.inputs.specs.Inputs.{namesOf, ended};
+ghost use Rattle.texts.specs.Words.{diffWord};
+ghost use Rattle.pages.specs.Page.{page, said, HasRoom};
+ghost use Rattle.lines.specs.Lines.{tokensText, nameText, lineOf, linesOf};
+ghost use Rattle.base.specs.Lent.{lent, left};
+use choices::Choice;
+use references::Reference;
+use spans::Distance;
+use spans::Position;
 
-pub mod line;
-pub mod text;
-
-// Most bytes of an input.
-const MOST: usize = 4096;
-
-fn put_refusal(out: &mut [u8], at: usize, r: Refusal) -> usize
-    requires { ⌜ HasRoom (refusalText r) (page (now out) at) ⌝ }
-    ensures { λ e. ⌜ page (now (out .exit)) e ≡ said (refusalText r) (page (now (out .entry)) at) ⌝ }
-{
-    match r {
-        Refusal::Plain(n) => {
-            let next = text::put_labelled(out, at, b"refused ", n);
-            text::put(out, next, b"\n")
-        }
-        Refusal::At(n, name) => {
-            let next = text::put_labelled(out, at, b"refused ", n);
-            let last = text::put_labelled(out, next, b" at ", name);
-            text::put(out, last, b"\n")
-        }
-    }
-}
-
-fn put_totals(out: &mut [u8], at: usize, names: u32, bytes: u32) -> usize
-    requires { ⌜ HasRoom (totalsText names bytes) (page (now out) at) ⌝ }
-    ensures { λ r. ⌜ page (now (out .exit)) r ≡ said (totalsText names bytes) (page (now (out .entry)) at) ⌝ }
-{
-    let next = text::put_number(out, at, names);
-    let last = text::put_labelled(out, next, b" names ", bytes);
-    text::put(out, last, b" bytes\n")
-}
-
-// The bytes that the names put, by the writer's pass that finds the total and writes nothing.
-fn total(table: &[u8; 256], input: &[u8]) -> u32
+// The tokens of a name and END; the earlier name is split again in step.
+fn put_tokens(out: &mut [u8], at: usize, table: &[u8; 256], before: &[u8], name: &[u8]) -> usize
     requires { ⌜ now table ≡ classTable ⌝ }
-    requires { ⌜ Good (now input) ⌝ }
-    ensures { λ r. ⌜ r ≡ totalOf (putsOf (namesOf (now (input .entry)))) ⌝ }
+    requires { ⌜ HasRoom (tokensText (now name) (choicesOf (now before) (now name))) (page (now out) at) ⌝ }
+    ensures { λ r. ⌜ page (left out) r ≡ said (tokensText (lent name) (choicesOf (lent before) (lent name))) (page (lent out) at) ⌝ }
 {
-    let mut directory = [0u32; Block::DIRECTORY];
-    let mut bytes = [0u8; 1];
-    writing::puts::put_names(Pass::Total, &mut directory, &mut bytes, table, input)
+    let mut next = at;
+    let mut p: u32 = 1;
+    let mut a: usize = 0;
+    let mut b: usize = 0;
+    while a < name.len() {
+        let here = Position(p);
+        let e = splitting::cut_at(table, name, here, a);
+        let f = splitting::cut_at(table, before, here, b);
+        let c = choices::choice_at(table, before, name, here, a, e, b, f);
+        next = texts::put_choice(out, next, name, c);
+        a = e.end;
+        b = f.end;
+        p += 1;
+    }
+    texts::put_choice(out, next, name, Choice::End)
 }
 
-fn put_listing(out: &mut [u8], table: &[u8; 256], input: &[u8]) -> usize
+fn put_diff(
+    out: &mut [u8],
+    at: usize,
+    table: &[u8; 256],
+    before: &[u8],
+    name: &[u8],
+    distance: Distance,
+) -> usize
     requires { ⌜ now table ≡ classTable ⌝ }
-    requires { ⌜ Good (now input) ⌝ }
-    requires { ⌜ HasRoom (listedOf (now input)) (page (now out) 0) ⌝ }
-    requires { ⌜ length (now input) ≤ 4096 ⌝ }
-    ensures { λ r. ⌜ page (now (out .exit)) r ≡ said (listedOf (now (input .entry))) (page (now (out .entry)) 0) ⌝ }
+    requires { ⌜ HasRoom ((diffWord ++ printed (distance .0)) ++ tokensText (now name) (choicesOf (now before) (now name))) (page (now out) at) ⌝ }
+    ensures { λ r. ⌜ page (left out) r ≡ said ((diffWord ++ printed (distance .0)) ++ tokensText (lent name) (choicesOf (lent before) (lent name))) (page (lent out) at) ⌝ }
 {
-    let next = line::put_lines(out, table, input);
-    let names = writing::names::count(input) as u32;
-    let bytes = total(table, input);
-    put_totals(out, next, names, bytes)
+    let next = pages::put_labelled(out, at, b" DIFF ", distance.0);
+    put_tokens(out, next, table, before, name)
 }
 
-fn put_listed(out: &mut [u8], input: &[u8]) -> usize
-    requires { ⌜ HasRoom (listedOf (now input)) (page (now out) 0) ⌝ }
-    ensures { λ r. ⌜ page (now (out .exit)) r ≡ said (listedOf (now (input .entry))) (page (now (out .entry)) 0) ⌝ }
+fn put_name(
+    out: &mut [u8],
+    at: usize,
+    table: &[u8; 256],
+    n: u32,
+    before: &[u8],
+    name: &[u8],
+) -> usize
+    requires { ⌜ now table ≡ classTable ⌝ }
+    requires { ⌜ HasRoom (nameText n (now before) (now name)) (page (now out) at) ⌝ }
+    ensures { λ r. ⌜ page (left out) r ≡ said (nameText n (lent before) (lent name)) (page (lent out) at) ⌝ }
 {
-    if MOST < input.len() {
-        return put_refusal(out, 0, Refusal::Plain(9));
-    }
-    if !writing::names::all_ended(input) {
-        return put_refusal(out, 0, Refusal::Plain(12));
-    }
-    let table = classes::table();
-    match writing::names::judge(&table, input) {
-        Judged::Bad(n) => put_refusal(out, 0, Refusal::At(8, n)),
-        Judged::Fine => put_listing(out, &table, input),
+    match references::reference_of(n, before, name) {
+        Reference::Dup(d) => pages::put_labelled(out, at, b" DUP ", d.0),
+        Reference::Diff(d) => put_diff(out, at, table, references::leans_on(n, before), name, d),
     }
 }
 
-// What the program prints for an input; every listing has enough of this room.
-pub fn list(input: &[u8], out: &mut [u8]) -> usize
-    requires { ⌜ 131072 ≤ length (now out) ⌝ }
-    ensures { λ r. ⌜ (r ≡ length (listedOf (now (input .entry)))) × (now (out .exit) ≡ written (now (out .entry)) 0 (listedOf (now (input .entry)))) ⌝ }
+fn put_line(
+    out: &mut [u8],
+    at: usize,
+    table: &[u8; 256],
+    n: u32,
+    before: &[u8],
+    name: &[u8],
+) -> usize
+    requires { ⌜ now table ≡ classTable ⌝ }
+    requires { ⌜ HasRoom (lineOf n (now before) (now name)) (page (now out) at) ⌝ }
+    ensures { λ r. ⌜ page (left out) r ≡ said (lineOf n (lent before) (lent name)) (page (lent out) at) ⌝ }
 {
-    put_listed(out, input)
+    let next = pages::put_number(out, at, n);
+    let last = put_name(out, next, table, n, before, name);
+    pages::put(out, last, b"\n")
+}
+
+pub fn put_lines(out: &mut [u8], table: &[u8; 256], input: &[u8]) -> usize
+    requires { ⌜ now table ≡ classTable ⌝ }
+    requires { ⌜ (ended (now input) ≡ true) × (length (namesOf (now input)) ≤ 65536) ⌝ }
+    requires { ⌜ HasRoom (linesOf (namesOf (now input))) (page (now out) 0) ⌝ }
+    ensures { λ r. ⌜ page (left out) r ≡ said (linesOf (namesOf (lent input))) (page (lent out) 0) ⌝ }
+{
+    let mut at: usize = 0;
+    let mut n: u32 = 0;
+    let mut from: usize = 0;
+    let mut to: usize = 0;
+    let mut start: usize = 0;
+    while start < input.len() {
+        let end = inputs::name_end(input, start);
+        at = put_line(out, at, table, n, &input[from..to], &input[start..end]);
+        from = start;
+        to = end;
+        start = end + 1;
+        n += 1;
+    }
+    at
 }

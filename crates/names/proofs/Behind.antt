@@ -10,8 +10,9 @@ use Rattle.base.proofs.Below.{take-written}
 use Rattle.block.specs.Block.{spanOf, cursorOf}
 use Rattle.tokens.proofs.Laws.{bytes-same}
 use Rattle.kept.proofs.Frame as frame
-use Rattle.steps.specs.Source.{source, earlier}
-use Rattle.steps.specs.Sound.{Rows}
+use Rattle.kept.specs.Tables.{rowSize}
+use Rattle.sources.specs.Source.{source, earlier}
+use Rattle.repeats.specs.Sound.{Rows}
 use Rattle.steps.proofs.Laws.{Known, given}
 use Rattle.steps.proofs.Frame.{byte-in-same, step-frame, rows-same}
 use Rattle.names.proofs.Growing.{Alike}
@@ -23,14 +24,14 @@ pub record Stays (bytes dir cur cur' text text' rows rows' : List ℕ) (first co
   pub alike : Alike (source bytes dir cur) (source bytes dir cur') (earlier text rows first count) (earlier text' rows' first count) q
 
 module _ (bytes dir cur cur' text text' rows rows' : List ℕ) (first count used q at k : ℕ) (xs ys : List ℕ)
-    (texts : text' ≡ written text at xs) (table : rows' ≡ written rows (5 * k) ys)
-    (above : used ≤ at) (behind : first + count ≤ k) (room : at + length xs ≤ length text) (rowed : 5 * k + length ys ≤ length rows) where
+    (texts : text' ≡ written text at xs) (table : rows' ≡ written rows (rowSize * k) ys)
+    (above : used ≤ at) (behind : first + count ≤ k) (room : at + length xs ≤ length text) (rowed : rowSize * k + length ys ≤ length rows) where
   take-same : take used text ≡ take used text'
   take-same = sym (ap (take used) texts ∙ take-written text at xs used above (omega (arith, room)))
 
-  rows-alike : frame.Alike rows rows' (first + count)
+  rows-alike : frame.Alike rows rows' (rowSize * (first + count))
   rows-alike j h =
-      sym (ap (λ (x : List ℕ). getD x j 0) table ∙ frame.alike-written rows (5 * k) ys (first + count) (omega (arith, behind)) (omega (arith, rowed)) j h)
+      sym (ap (λ (x : List ℕ). getD x j 0) table ∙ frame.alike-written rows (rowSize * k) ys (rowSize * (first + count)) (omega (arith, behind)) (omega (arith, rowed)) j h)
 
   -- where the cursors of position q and of those behind it stay
   pub stays : Rows used (earlier text rows first count)
@@ -39,7 +40,7 @@ module _ (bytes dir cur cur' text text' rows rows' : List ℕ) (first count used
       → Stays bytes dir cur cur' text text' rows rows' first count used q
   stays r known same =
       let a : length text' ≡ length text = ap length texts ∙ length-written text at xs room in
-      let b : length rows' ≡ length rows = ap length table ∙ length-written rows (5 * k) ys rowed in
+      let b : length rows' ≡ length rows = ap length table ∙ length-written rows (rowSize * k) ys rowed in
       record {
         lengthText = a;
         lengthRows = b;

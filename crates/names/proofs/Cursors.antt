@@ -1,9 +1,10 @@
--- The cursors that a name moves: each stays inside its span, and those of later positions stay where they are.
-use Prim.Native.Nat.{ℕ, _+_, _*_, _≤_, _<_, _^_}
+-- The cursors that a name moves: each stays inside its span.
+use Prim.Native.Nat.{ℕ, _+_, _≤_}
 use mathlib.Core.Path.{_≡_, refl, sym, ap, _∙_}
 use mathlib.Core.List.{List}
 use native.Mathlib.Omega.{arith}
-use lib.ListN.{length, set, getD, length-set}
+use lib.ListN.{set}
+use Rattle.bars.specs.Bars.{barred}
 use Rattle.base.proofs.Choice.{pick-true, pick-false, by-test}
 use Rattle.spans.specs.declared.Cursor.{Cursor}
 use Rattle.spans.specs.declared.NextByte.{NextByte}
@@ -13,16 +14,18 @@ use Rattle.spans.proofs.Laws.{byte-found, four-found}
 use Rattle.block.specs.Block.{spanOf, endOf, cursorOf}
 use Rattle.block.specs.Open.{Open}
 use Rattle.block.proofs.Laws.{span-below, span-stream, cursor-set-other, open-set}
+use Rattle.block.specs.Streams.{digits0Stream, dzlenStream}
 use Rattle.tokens.specs.declared.TokenType.{TokenType}
 use Rattle.tokens.specs.declared.TokenType.the-variants as type
 use Rattle.tokens.specs.declared.Token.{Token}
 use Rattle.tokens.specs.Types.{typeOf}
-use Rattle.steps.specs.declared.Step.the-variants as step
-use Rattle.steps.specs.Source.{Source, source, Earlier, byteIn, fourIn}
-use Rattle.steps.specs.Steps.{valueStep, barred, typedStep, stepAt}
-use Rattle.steps.proofs.Moves.{Between, Moved, value-moved}
-use Rattle.names.specs.Names.{past, typeIn, valuePast}
-use Rattle.names.specs.Moves.{Movable}
+use Rattle.sources.specs.Source.{Source, source, Earlier, byteIn, fourIn}
+use Rattle.sources.proofs.Cases.{Between}
+use Rattle.values.specs.declared.Step.the-variants as step
+use Rattle.steps.specs.Steps.{valueStep, typedStep, stepAt}
+use Rattle.steps.proofs.Moves.{Moved, value-moved}
+use Rattle.moving.specs.Moves.{past, valuePast}
+use Rattle.names.specs.Names.{typeIn}
 
 never-refused : {t : Token} {c : Cursor} {r : ℕ} → step.Refused r ≡ step.Got t c → ⊥
 never-refused q = let z : _≡_ {A = ℕ} 0 1 = cc in omega arith
@@ -63,16 +66,16 @@ module _ (bytes dir cur now : List ℕ) (p : ℕ) (h : p ≤ 128) (w : Typed byt
   value-set i c k l r =
       open-set bytes dir now (spanOf p i) c (w .opened) (span-below p i h l) (omega (arith, w .same i k l, r .0)) (r .1)
 
-  width-set : (c : ℕ) → Between (source bytes dir cur) p 3 c → cursorOf cur (spanOf p 4) + 1 ≤ endOf dir (spanOf p 4)
-      → Open bytes dir (past (set now (spanOf p 3) c) (spanOf p 4) 1)
+  width-set : (c : ℕ) → Between (source bytes dir cur) p digits0Stream c → cursorOf cur (spanOf p dzlenStream) + 1 ≤ endOf dir (spanOf p dzlenStream)
+      → Open bytes dir (past (set now (spanOf p digits0Stream) c) (spanOf p dzlenStream) 1)
   unfolding past
   width-set c r k =
-      let u : cursorOf (set now (spanOf p 3) c) (spanOf p 4) ≡ cursorOf cur (spanOf p 4) =
-      cursor-set-other now (spanOf p 3) c (spanOf p 4)
+      let u : cursorOf (set now (spanOf p digits0Stream) c) (spanOf p dzlenStream) ≡ cursorOf cur (spanOf p dzlenStream) =
+      cursor-set-other now (spanOf p digits0Stream) c (spanOf p dzlenStream)
       (λ q. let z = span-stream p 4 p 3 (omega arith) (omega arith) q in omega arith)
       ∙ w .same 4 (omega arith) (omega arith) in
-      open-set bytes dir (set now (spanOf p 3) c) (spanOf p 4) (cursorOf (set now (spanOf p 3) c) (spanOf p 4) + 1)
-      (value-set 3 c (omega arith) (omega arith) r) (span-below p 4 h (omega arith)) (omega arith) (omega arith)
+      open-set bytes dir (set now (spanOf p digits0Stream) c) (spanOf p dzlenStream) (cursorOf (set now (spanOf p digits0Stream) c) (spanOf p dzlenStream) + 1)
+      (value-set 3 c (omega arith) (omega arith) r) (span-below p dzlenStream h (omega arith)) (omega arith) (omega arith)
 
   -- past a value
   open-value : (ty : TokenType) (c : ℕ) → Moved (source bytes dir cur) p c ty → Open bytes dir (valuePast ty p c now)
@@ -123,51 +126,3 @@ module _ (bytes dir cur : List ℕ) (o : Open bytes dir cur) (e : Earlier) (p : 
   pub open-ended : stepAt (source bytes dir cur) e p ≡ step.End → Open bytes dir (past cur (spanOf p 0) 1)
   unfolding stepAt
   open-ended q = end-open (byteIn (source bytes dir cur) p 0) refl q
-
--- the cursors of other positions stay
-pub past-later : (cur : List ℕ) (p i n j : ℕ) → i ≤ 9 → 10 * (p + 1) ≤ j → cursorOf (past cur (spanOf p i) n) j ≡ cursorOf cur j
-unfolding past spanOf
-past-later cur p i n j h k = cursor-set-other cur (10 * p + i) (cursorOf cur (10 * p + i) + n) j (λ q. omega arith)
-
-set-later : (cur : List ℕ) (p i c j : ℕ) → i ≤ 9 → 10 * (p + 1) ≤ j → cursorOf (set cur (spanOf p i) c) j ≡ cursorOf cur j
-unfolding spanOf
-set-later cur p i c j h k = cursor-set-other cur (10 * p + i) c j (λ q. omega arith)
-
-pub value-later : (ty : TokenType) (cur : List ℕ) (p c j : ℕ) → 10 * (p + 1) ≤ j → cursorOf (valuePast ty p c cur) j ≡ cursorOf cur j
-unfolding valuePast
-value-later type.String cur p c j h = set-later cur p 1 c j (omega arith) h
-value-later type.Char cur p c j h = set-later cur p 2 c j (omega arith) h
-value-later type.Digits cur p c j h = set-later cur p 7 c j (omega arith) h
-value-later type.Digits0 cur p c j h = past-later (set cur (spanOf p 3) c) p 4 1 j (omega arith) h ∙ set-later cur p 3 c j (omega arith) h
-value-later type.Delta cur p c j h = set-later cur p 8 c j (omega arith) h
-value-later type.Delta0 cur p c j h = set-later cur p 9 c j (omega arith) h
-value-later type.Match cur p c j h = refl
-value-later type.End cur p c j h = refl
-value-later type.Other cur p c j h = refl
-
-pub length-past : (cur : List ℕ) (i n : ℕ) → length (past cur i n) ≡ length cur
-unfolding past
-length-past cur i n = length-set cur i (cursorOf cur i + n)
-
--- the moves of the code, in a contract's direction
-module _ (cur : List ℕ) (i j n : ℕ) (e : i ≡ j) where
-  pub move-fits : cursorOf cur j + n < 2 ^ 32 → getD cur i 0 + n < 2 ^ 32
-  unfolding cursorOf
-  move-fits h = rw e h
-
-  pub moved-on : set cur i (getD cur i 0 + n) ≡ past cur j n
-  unfolding past cursorOf
-  moved-on = rw e
-
-pub padded-fits : (cur now : List ℕ) (p c : ℕ) → now ≡ set cur (spanOf p 3) c → cursorOf cur (spanOf p 4) + 1 < 2 ^ 32 → cursorOf now (spanOf p 4) + 1 < 2 ^ 32
-padded-fits cur now p c e h =
-    let k = ap (λ (x : List ℕ). cursorOf x (spanOf p 4)) e
-    ∙ cursor-set-other cur (spanOf p 3) c (spanOf p 4) (λ q. let z = span-stream p 4 p 3 (omega arith) (omega arith) q in omega arith) in
-    omega arith
-
-pub typed-movable : (t : TokenType) (cur now : List ℕ) (p : ℕ) → now ≡ past cur (spanOf p 0) 1 → Movable t p cur → Movable t p now
-unfolding past
-typed-movable t cur now p e h q =
-    let k = ap (λ (x : List ℕ). cursorOf x (spanOf p 4)) e
-    ∙ cursor-set-other cur (spanOf p 0) (cursorOf cur (spanOf p 0) + 1) (spanOf p 4) (λ q. let z = span-stream p 4 p 0 (omega arith) (omega arith) q in omega arith) in
-    omega (arith, h q)

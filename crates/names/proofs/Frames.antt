@@ -11,15 +11,17 @@ use Rattle.block.specs.Block.{spanOf, cursorOf}
 use Rattle.block.specs.Open.{Open}
 use Rattle.tokens.specs.Tokens.{bytesOf}
 use Rattle.tokens.specs.declared.Token.{Token}
-use Rattle.steps.specs.declared.Step.{Step}
-use Rattle.steps.specs.declared.Step.the-variants as step
-use Rattle.steps.specs.Source.{Source, source, Earlier, byteIn}
+use Rattle.values.specs.declared.Step.{Step}
+use Rattle.values.specs.declared.Step.the-variants as step
+use Rattle.sources.specs.Source.{Source, source, Earlier, byteIn}
 use Rattle.steps.specs.Steps.{stepAt}
 use Rattle.steps.proofs.Frame.{byte-in-same, step-cursors}
 use Rattle.names.specs.declared.Judged.the-variants as judged
-use Rattle.names.specs.Names.{Draft, draft, Named, named, refused, past, typeIn, grown, ended, printable, onward, nameFrom, nameOf}
+use Rattle.names.specs.Names.{Draft, draft, Named, named, refused, typeIn, grown, ended, printable, onward, nameFrom, nameOf}
+use Rattle.moving.specs.Moves.{past}
 use Rattle.names.specs.Judge.{summary, draftOf}
-use Rattle.names.proofs.Cursors.{open-token, open-ended, past-later, value-later}
+use Rattle.names.proofs.Cursors.{open-token, open-ended}
+use Rattle.moving.proofs.Moves.{past-later, value-later}
 use Rattle.names.proofs.Growing.{never-named, Grows, grows, name-same}
 
 -- two tables have the same cursors from position p on

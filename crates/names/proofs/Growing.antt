@@ -11,12 +11,13 @@ use Rattle.base.specs.Choice.{pick}
 use Rattle.base.proofs.Choice.{pick-true, pick-false, by-test, both-true}
 use Rattle.classes.specs.Classes.{allAllowed}
 use Rattle.spans.specs.declared.Cursor.{Cursor}
+use Rattle.kept.specs.Tables.{rowSize}
 use Rattle.tokens.specs.Tokens.{bytesOf, rowOf}
 use Rattle.tokens.specs.declared.Token.{Token}
 use Rattle.tokens.proofs.Laws.{length-row}
-use Rattle.steps.specs.declared.Step.{Step}
-use Rattle.steps.specs.declared.Step.the-variants as step
-use Rattle.steps.specs.Source.{Source, Earlier, byteIn}
+use Rattle.values.specs.declared.Step.{Step}
+use Rattle.values.specs.declared.Step.the-variants as step
+use Rattle.sources.specs.Source.{Source, Earlier, byteIn}
 use Rattle.steps.specs.Steps.{stepAt}
 use Rattle.names.specs.Names.{Draft, Named, named, refused, grown, ended, printable, onward, nameFrom}
 
@@ -34,7 +35,7 @@ pub record Grows (d D : Draft) (f : ℕ) : Type 0 where
   pub short : length (d .text) ≤ 254 → length (D .text) ≤ 254
   pub more : d .count ≤ D .count
   pub few : D .count < d .count + f
-  pub fives : length (d .rows) ≡ 5 * d .count → length (D .rows) ≡ 5 * D .count
+  pub whole : length (d .rows) ≡ rowSize * d .count → length (D .rows) ≡ rowSize * D .count
   pub held : (1 ≤ length (d .text) → 1 ≤ d .count) → 1 ≤ D .count
 
 module _ (s : Source) (e : Earlier) (used p f : ℕ) (d D : Draft) (t : Token) (c : ℕ) where
@@ -52,7 +53,7 @@ module _ (s : Source) (e : Earlier) (used p f : ℕ) (d D : Draft) (t : Token) (
         short = λ h. g .short (omega arith);
         more = omega (arith, g .more);
         few = omega (arith, g .few);
-        fives = λ h. g .fives (omega arith);
+        whole = λ h. g .whole (omega arith);
         held = λ h. g .held (λ z. omega arith);
       }
 
@@ -73,7 +74,7 @@ module _ (s : Source) (e : Earlier) (used p f : ℕ) (d D : Draft) (rest : Draft
         short = λ h. omega arith;
         more = omega arith;
         few = omega arith;
-        fives = λ h. omega arith;
+        whole = λ h. omega arith;
         held = λ h. omega (arith, h (omega arith));
       }
 

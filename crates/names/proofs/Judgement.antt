@@ -13,9 +13,9 @@ use Rattle.classes.specs.Classes.{allAllowed}
 use Rattle.tokens.specs.Tokens.{bytesOf}
 use Rattle.tokens.specs.declared.Token.{Token}
 use Rattle.spans.specs.declared.Cursor.{Cursor}
-use Rattle.steps.specs.declared.Step.{Step}
-use Rattle.steps.specs.declared.Step.the-variants as step
-use Rattle.steps.specs.Source.{Source, Earlier}
+use Rattle.values.specs.declared.Step.{Step}
+use Rattle.values.specs.declared.Step.the-variants as step
+use Rattle.sources.specs.Source.{Source, Earlier}
 use Rattle.steps.specs.Steps.{stepAt}
 use Rattle.names.specs.declared.Judged.{Judged}
 use Rattle.names.specs.declared.Judged.the-variants as judged

@@ -4,9 +4,3 @@ pub mod Growing
 pub mod Behind
 pub mod Turns
 pub mod Frames
-pub mod OneTurn
-pub mod Matches
-pub mod OneByOne
-pub mod Spelling
-pub mod Running
-pub mod Walks

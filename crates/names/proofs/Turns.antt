@@ -14,21 +14,24 @@ use Rattle.spans.specs.declared.Cursor.{Cursor}
 use Rattle.spans.specs.declared.NextByte.{NextByte}
 use Rattle.block.specs.Block.{spanOf, endOf, cursorOf}
 use Rattle.block.specs.Open.{Open}
+use Rattle.kept.specs.Tables.{rowSize}
 use Rattle.tokens.specs.declared.TokenType.{TokenType}
 use Rattle.tokens.specs.declared.Token.{Token}
 use Rattle.tokens.specs.Tokens.{bytesOf, lengthOf, rowOf}
 use Rattle.tokens.proofs.Laws.{length-bytes, length-row}
-use Rattle.steps.specs.declared.Step.{Step}
-use Rattle.steps.specs.declared.Step.the-variants as step
-use Rattle.steps.specs.Source.{Source, source, Earlier, earlier, byteIn}
+use Rattle.values.specs.declared.Step.{Step}
+use Rattle.values.specs.declared.Step.the-variants as step
+use Rattle.sources.specs.Source.{Source, source, Earlier, earlier, byteIn}
 use Rattle.steps.specs.Steps.{typedStep, stepAt}
-use Rattle.steps.specs.Sound.{Rows}
+use Rattle.repeats.specs.Sound.{Rows}
 use Rattle.steps.proofs.Laws.{Known, Given, given, ended}
-use Rattle.names.specs.Names.{Draft, draft, Named, named, refused, past, typeIn, valuePast, grown, printable, onward, nameFrom, nameOf}
+use Rattle.names.specs.Names.{Draft, draft, Named, named, refused, typeIn, grown, printable, onward, nameFrom, nameOf}
+use Rattle.moving.specs.Moves.{past, valuePast}
 use Rattle.names.specs.Names as names
 use Rattle.names.specs.Judge.{draftOf}
 use Rattle.names.specs.Keeps.{Memory, memory, putToken, putName, Roomy}
-use Rattle.names.proofs.Cursors.{open-token, past-later, value-later}
+use Rattle.names.proofs.Cursors.{open-token}
+use Rattle.moving.proofs.Moves.{past-later, value-later}
 use Rattle.names.proofs.Behind.{Stays, stays}
 use Rattle.names.proofs.Growing.{never-named, grows, name-same, printable-short}
 
@@ -37,7 +40,7 @@ unfolding stepAt
 step-of s e p f q = q ∙ ap (typedStep s e p) f
 
 pub token-put : (bytes text rows cur : List ℕ) (t : Token) (ty : TokenType) (p c at row : ℕ) {text' rows' cur' : List ℕ}
-    → text' ≡ written text at (bytesOf bytes text t) → rows' ≡ written rows (5 * row) (rowOf t at) → cur' ≡ valuePast ty p c (past cur (spanOf p 0) 1)
+    → text' ≡ written text at (bytesOf bytes text t) → rows' ≡ written rows (rowSize * row) (rowOf t at) → cur' ≡ valuePast ty p c (past cur (spanOf p 0) 1)
     → memory text' rows' cur' ≡ putToken bytes (memory text rows cur) t ty p c at row
 unfolding putToken
 token-put bytes text rows cur t ty p c at row e f g = cc
@@ -48,12 +51,12 @@ pub record Going (bytes dir text₀ rows₀ : List ℕ) (first count used row : 
   pub low : 1 ≤ p
   pub high : p ≤ 128
   pub texts : text ≡ written text₀ used (d .text)
-  pub table : rows ≡ written rows₀ (5 * row) (d .rows)
+  pub table : rows ≡ written rows₀ (rowSize * row) (d .rows)
   pub cursors : cur ≡ d .cur
   pub place : at ≡ used + length (d .text)
   pub short : length (d .text) ≤ 254
   pub counted : p ≡ d .count + 1
-  pub fives : length (d .rows) ≡ 5 * d .count
+  pub whole : length (d .rows) ≡ rowSize * d .count
   pub opened : Open bytes dir cur
   pub known : Rows used (earlier text rows first count)
   pub goes : nameFrom (source bytes dir cur) (earlier text rows first count) used (129 - p) p d ≡ named D
@@ -72,12 +75,12 @@ begun bytes dir cur text rows first count used row n q w o k bt br =
       low = omega arith;
       high = omega arith;
       texts = sym (written-none text used []);
-      table = sym (written-none rows (5 * row) []);
+      table = sym (written-none rows (rowSize * row) []);
       cursors = refl;
       place = omega arith;
       short = omega arith;
       counted = refl;
-      fives = refl;
+      whole = refl;
       opened = o;
       known = k;
       goes = q ∙ w;
@@ -127,7 +130,7 @@ module _ (bytes dir text₀ rows₀ : List ℕ) (first count used row : ℕ) (n 
       ∙ ap (λ (x : List ℕ). written x (used + length (g .d .text)) (10 ∷ [])) (g .texts)
       ∙ written-next text₀ used (g .d .text) (10 ∷ []) (omega arith)
       ∙ ap (λ (x : List ℕ). written text₀ used (x ++ (10 ∷ []))) dt in
-      let re : rows ≡ written rows₀ (5 * row) (draftOf n .rows) = g .table ∙ ap (λ (x : List ℕ). written rows₀ (5 * row) x) dr in
+      let re : rows ≡ written rows₀ (rowSize * row) (draftOf n .rows) = g .table ∙ ap (λ (x : List ℕ). written rows₀ (rowSize * row) x) dr in
       let ce : cur' ≡ draftOf n .cur = c ∙ ap (λ (x : List ℕ). past x (spanOf p 0) 1) (g .cursors) ∙ dc in
       cc
 
@@ -171,11 +174,11 @@ module _ (bytes dir text₀ rows₀ : List ℕ) (first count used row : ℕ) (n 
     unfolding next grown
     next-text = length-append (g .d .text) (bytesOf bytes text t) ∙ ap (λ (x : ℕ). length (g .d .text) + x) wide
 
-    next-rows : length (next .rows) ≡ 5 * next .count
+    next-rows : length (next .rows) ≡ rowSize * next .count
     unfolding next grown
     next-rows =
         length-append (g .d .rows) (rowOf t (used + length (g .d .text)))
-        ∙ omega (arith, length-row t (used + length (g .d .text)), g .fives)
+        ∙ omega (arith, length-row t (used + length (g .d .text)), g .whole)
 
     next-count : next .count ≡ g .d .count + 1
     unfolding next grown
@@ -185,7 +188,7 @@ module _ (bytes dir text₀ rows₀ : List ℕ) (first count used row : ℕ) (n 
     next-short = omega (arith, printable-short (bytesOf bytes text t) (length (g .d .text)) prints, wide)
 
     -- there is room for the token
-    pub token-room : (at + lengthOf t ≤ length text) × (5 * (row + (p - 1)) + 5 ≤ length rows)
+    pub token-room : (at + lengthOf t ≤ length text) × (rowSize * (row + (p - 1)) + rowSize ≤ length rows)
     token-room =
         let w = grows (source bytes dir cur) (earlier text rows first count) used (129 - (p + 1)) (p + 1) next (draftOf n) rest in (
           omega (arith, w .longer, next-text, room .bytes, g .place, g .lengthText),
@@ -198,7 +201,7 @@ module _ (bytes dir text₀ rows₀ : List ℕ) (first count used row : ℕ) (n 
       unfolding putToken
       text-is = ap (λ (x : Memory). x .text) m
 
-      rows-is : rows' ≡ written rows (5 * (row + (p - 1))) (rowOf t at)
+      rows-is : rows' ≡ written rows (rowSize * (row + (p - 1))) (rowOf t at)
       unfolding putToken
       rows-is = ap (λ (x : Memory). x .rows) m
 
@@ -229,14 +232,14 @@ module _ (bytes dir text₀ rows₀ : List ℕ) (first count used row : ℕ) (n 
           ∙ ap (λ (x : List ℕ). written x (used + length (g .d .text)) (bytesOf bytes text t)) (g .texts)
           ∙ written-next text₀ used (g .d .text) (bytesOf bytes text t) (omega (arith, token-room .0, g .place, g .lengthText))
 
-      rows-grown : rows' ≡ written rows₀ (5 * row) (next .rows)
+      rows-grown : rows' ≡ written rows₀ (rowSize * row) (next .rows)
       unfolding next grown
       rows-grown =
-          let at-row : 5 * (row + (p - 1)) ≡ 5 * row + length (g .d .rows) = omega (arith, g .fives, g .counted) in
-          rows-is ∙ ap (λ (x : ℕ). written rows (5 * (row + (p - 1))) (rowOf t x)) (g .place)
+          let at-row : rowSize * (row + (p - 1)) ≡ rowSize * row + length (g .d .rows) = omega (arith, g .whole, g .counted) in
+          rows-is ∙ ap (λ (x : ℕ). written rows (rowSize * (row + (p - 1))) (rowOf t x)) (g .place)
           ∙ ap (λ (x : ℕ). written rows x (rowOf t (used + length (g .d .text)))) at-row
-          ∙ ap (λ (x : List ℕ). written x (5 * row + length (g .d .rows)) (rowOf t (used + length (g .d .text)))) (g .table)
-          ∙ written-next rows₀ (5 * row) (g .d .rows) (rowOf t (used + length (g .d .text))) (omega (arith, token-room .1, g .fives, g .counted, g .lengthRows))
+          ∙ ap (λ (x : List ℕ). written x (rowSize * row + length (g .d .rows)) (rowOf t (used + length (g .d .text)))) (g .table)
+          ∙ written-next rows₀ (rowSize * row) (g .d .rows) (rowOf t (used + length (g .d .text))) (omega (arith, token-room .1, g .whole, g .counted, g .lengthRows))
 
       cur-grown : cur' ≡ next .cur
       unfolding next grown
@@ -257,7 +260,7 @@ module _ (bytes dir text₀ rows₀ : List ℕ) (first count used row : ℕ) (n 
             place = omega (arith, next-text, g .place);
             short = omega (arith, next-text, next-short);
             counted = omega (arith, next-count, g .counted);
-            fives = next-rows;
+            whole = next-rows;
             opened = rw cur-is (open-token bytes dir cur (g .opened) (earlier text rows first count) p (g .high) q);
             known = behind .known;
             goes =

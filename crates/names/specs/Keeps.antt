@@ -8,8 +8,12 @@ use Rattle.block.specs.Block.{spanOf}
 use Rattle.tokens.specs.declared.TokenType.{TokenType}
 use Rattle.tokens.specs.declared.Token.{Token}
 use Rattle.tokens.specs.Tokens.{bytesOf, rowOf}
-use Rattle.names.specs.Names.{Draft, Named, named, past, valuePast}
+use Rattle.names.specs.Names.{Draft, Named, named}
+use Rattle.moving.specs.Moves.{past, valuePast}
 use Rattle.names.specs.Judge.{draftOf}
+use Rattle.base.specs.Lent.{Buffer, lent, left}
+use Rattle.block.specs.Streams.{typeStream}
+use Rattle.kept.specs.Tables.{rowSize}
 
 -- the memory that a name is kept in
 pub record Memory : Type 0 where
@@ -24,18 +28,25 @@ memory t r c = record { text = t; rows = r; cur = c }
 unfoldable pub putToken : List ℕ → Memory → Token → TokenType → ℕ → ℕ → ℕ → ℕ → Memory
 putToken bytes m t ty p c at row = memory
     (written (m .text) at (bytesOf bytes (m .text) t))
-    (written (m .rows) (5 * row) (rowOf t at))
-    (valuePast ty p c (past (m .cur) (spanOf p 0) 1))
+    (written (m .rows) (rowSize * row) (rowOf t at))
+    (valuePast ty p c (past (m .cur) (spanOf p typeStream) 1))
 
 -- a name followed by byte 10, its rows, and the cursors past it
 unfoldable pub putName : ℕ → ℕ → List ℕ → List ℕ → Draft → Memory
-putName used row text rows d = memory (written text used (d .text ++ (10 ∷ []))) (written rows (5 * row) (d .rows)) (d .cur)
+putName used row text rows d = memory (written text used (d .text ++ (10 ∷ []))) (written rows (rowSize * row) (d .rows)) (d .cur)
 
 -- a name, and room for it behind the rows that it leans on
 pub record Roomy (n : Named) (below used row : ℕ) (text rows : List ℕ) : Type 0 where
   pub whole : n ≡ named (draftOf n)
   pub bytes : used + length (draftOf n .text) + 1 ≤ length text
-  pub table : 5 * (row + draftOf n .count) ≤ length rows
+  pub table : rowSize * (row + draftOf n .count) ≤ length rows
   pub behind : below ≤ row
   pub near : used < 2 ^ 31
   pub few : row < 2 ^ 31
+
+-- the memory that a call is lent, and the memory that it leaves
+abbrev pub memoryLent : Buffer → Buffer → Buffer → Memory
+memoryLent text rows cursors = memory (lent text) (lent rows) (lent cursors)
+
+abbrev pub memoryLeft : Buffer → Buffer → Buffer → Memory
+memoryLeft text rows cursors = memory (left text) (left rows) (left cursors)

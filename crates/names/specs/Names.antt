@@ -3,23 +3,25 @@ use Prim.Native.Nat.{ℕ, zero, suc, _+_}
 use mathlib.Core.Bool.{Bool}
 use mathlib.Core.List.{List, [], _++_}
 use lib.Dec.{leb, eqb}
-use lib.ListN.{length, set}
+use lib.ListN.{length}
 use Rattle.base.specs.Choice.{pick, both}
 use Rattle.classes.specs.Classes.{allAllowed}
 use Rattle.spans.specs.declared.NextByte.{NextByte}
 use Rattle.spans.specs.declared.NextByte.the-variants as byte
-use Rattle.block.specs.Block.{spanOf, cursorOf}
+use Rattle.block.specs.Block.{spanOf}
+use Rattle.block.specs.Streams.{typeStream}
 use Rattle.tokens.specs.declared.TokenType.{TokenType}
 use Rattle.tokens.specs.declared.TokenType.the-variants as type
 use Rattle.tokens.specs.declared.Token.{Token}
 use Rattle.tokens.specs.Types.{typeOf}
 use Rattle.tokens.specs.Tokens.{bytesOf, rowOf}
-use Rattle.steps.specs.declared.Step.{Step}
-use Rattle.steps.specs.declared.Step.the-variants as step
-use Rattle.steps.specs.Source.{Source, Earlier, byteIn}
+use Rattle.sources.specs.Source.{Source, Earlier, byteIn}
+use Rattle.values.specs.declared.Step.{Step}
+use Rattle.values.specs.declared.Step.the-variants as step
 use Rattle.steps.specs.Steps.{stepAt}
+use Rattle.moving.specs.Moves.{past, valuePast}
 
--- a name as far as it is read, `used` bytes of text being kept before it: its text, its rows (five numbers each) and how many, and the cursors moved past its bytes
+-- a name as far as it is read, `used` bytes of text being kept before it: its text, its rows and how many, and the cursors moved past its bytes
 pub record Draft : Type 0 where
   pub text : List ℕ
   pub rows : List ℕ
@@ -34,26 +36,10 @@ pub data Named : Type 0 where
   named : Draft → Named
   refused : ℕ → Named
 
--- a cursor moved so many bytes on
-unfoldable pub past : List ℕ → ℕ → ℕ → List ℕ
-past cur span n = set cur span (cursorOf cur span + n)
-
 -- the type at a position
 unfoldable pub typeIn : NextByte → TokenType
 typeIn (byte.Value b c) = typeOf b
 typeIn byte.Short = type.Other
-
--- the cursor of the span that a value was read from, moved to where the step says; a DZLEN is one byte
-unfoldable pub valuePast : TokenType → ℕ → ℕ → List ℕ → List ℕ
-valuePast type.String p c cur = set cur (spanOf p 1) c
-valuePast type.Char p c cur = set cur (spanOf p 2) c
-valuePast type.Digits p c cur = set cur (spanOf p 7) c
-valuePast type.Digits0 p c cur = past (set cur (spanOf p 3) c) (spanOf p 4) 1
-valuePast type.Delta p c cur = set cur (spanOf p 8) c
-valuePast type.Delta0 p c cur = set cur (spanOf p 9) c
-valuePast type.Match p c cur = cur
-valuePast type.End p c cur = cur
-valuePast type.Other p c cur = cur
 
 -- with one token more
 unfoldable pub grown : Source → Earlier → ℕ → ℕ → Token → ℕ → Draft → Draft
@@ -61,11 +47,11 @@ grown s e used p t c d = draft
     (d .text ++ bytesOf (s .bytes) (e .text) t)
     (d .rows ++ rowOf t (used + length (d .text)))
     (d .count + 1)
-    (valuePast (typeIn (byteIn s p 0)) p c (past (d .cur) (spanOf p 0) 1))
+    (valuePast (typeIn (byteIn s p typeStream)) p c (past (d .cur) (spanOf p typeStream) 1))
 
 -- with its END
 unfoldable pub ended : ℕ → Draft → Draft
-ended p d = draft (d .text) (d .rows) (d .count) (past (d .cur) (spanOf p 0) 1)
+ended p d = draft (d .text) (d .rows) (d .count) (past (d .cur) (spanOf p typeStream) 1)
 
 -- 8: a byte SAM doesn't allow, a running length above 254
 unfoldable pub printable : List ℕ → ℕ → Bool

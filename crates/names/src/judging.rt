@@ -4,6 +4,7 @@ ghost use Prim.Native.Nat.{_≤_};
 ghost use Rattle.tokens.specs.Tokens.{bytesOf, lengthOf};
 ghost use Rattle.tokens.specs.Inside.{Inside};
 ghost use Rattle.names.specs.Names.{printable};
+ghost use Rattle.base.specs.Lent.{lent};
 use block::Block;
 use tokens::Token;
 
@@ -11,7 +12,7 @@ use tokens::Token;
 pub fn prints(t: Token, length: u32, bytes: &[u8], text: &[u8], before: u32) -> bool
     requires { ⌜ (length ≡ lengthOf t) × (before ≤ 254) ⌝ }
     requires { ⌜ Inside (now bytes) (now text) t ⌝ }
-    ensures { λ r. ⌜ r ≡ printable (bytesOf (now (bytes .entry)) (now (text .entry)) t) before ⌝ }
+    ensures { λ r. ⌜ r ≡ printable (bytesOf (lent bytes) (lent text) t) before ⌝ }
 {
     if Block::BYTES - before < length {
         return false;

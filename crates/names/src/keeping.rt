@@ -6,9 +6,11 @@ ghost use Rattle.block.specs.Block.{spanOf, cursorOf};
 ghost use Rattle.tokens.specs.Tokens.{lengthOf};
 ghost use Rattle.tokens.specs.Inside.{Inside, KeptBelow};
 ghost use Rattle.names.specs.Names.{typeIn};
-ghost use Rattle.names.specs.Moves.{Movable};
-ghost use Rattle.names.specs.Keeps.{memory, putToken};
-use crate::moving;
+ghost use Rattle.moving.specs.Moves.{Movable};
+ghost use Rattle.names.specs.Keeps.{putToken, memoryLent, memoryLeft};
+ghost use Rattle.base.specs.Lent.{lent};
+ghost use Rattle.block.specs.Streams.{typeStream};
+ghost use Rattle.kept.specs.Tables.{rowSize};
 use spans::Cursor;
 use spans::NextByte;
 use spans::Position;
@@ -39,11 +41,11 @@ pub fn keep_token(
 ) -> u32
     requires { ⌜ Inside (now bytes) (now text) t ⌝ }
     requires { ⌜ KeptBelow at t ⌝ }
-    requires { ⌜ (at + lengthOf t ≤ length (now text)) × (5 * row + 5 ≤ length (now rows)) ⌝ }
-    requires { ⌜ (length (now cursors) ≡ 1290) × ((p .0 ≤ 128) × (cursorOf (now cursors) (spanOf (p .0) 0) + 1 < 2 ^ 32)) ⌝ }
+    requires { ⌜ (at + lengthOf t ≤ length (now text)) × (rowSize * row + rowSize ≤ length (now rows)) ⌝ }
+    requires { ⌜ (length (now cursors) ≡ 1290) × ((p .0 ≤ 128) × (cursorOf (now cursors) (spanOf (p .0) typeStream) + 1 < 2 ^ 32)) ⌝ }
     requires { ⌜ Movable ty (p .0) (now cursors) ⌝ }
     ensures { λ r. ⌜ r ≡ lengthOf t ⌝ }
-    ensures { λ _. ⌜ memory (now (text .exit)) (now (rows .exit)) (now (cursors .exit)) ≡ putToken (now (bytes .entry)) (memory (now (text .entry)) (now (rows .entry)) (now (cursors .entry))) t ty (p .0) (c .0) at row ⌝ }
+    ensures { λ _. ⌜ memoryLeft text rows cursors ≡ putToken (lent bytes) (memoryLent text rows cursors) t ty (p .0) (c .0) at row ⌝ }
 {
     let len = tokens::put(t, bytes, text, at as usize);
     tokens::put_row(t, len, rows, row as usize, at);

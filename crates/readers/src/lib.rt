@@ -6,6 +6,7 @@ ghost use lib.ListN.{length};
 ghost use Rattle.base.specs.Memory.{part};
 ghost use Rattle.spans.specs.Spans.{byteAt, fourAt, textAt};
 ghost use Rattle.readers.specs.Readers.{leftEnd, byteOf, fourOf, textOf};
+ghost use Rattle.base.specs.Lent.{lent, left};
 use spans::Cursor;
 use spans::NextByte;
 use spans::NextFour;
@@ -17,7 +18,7 @@ pub struct SpanReader<'a> {
 
 // A cursor counts in 32 bits, and a slice may be longer.
 fn left_end(left: &[u8]) -> Cursor
-    ensures { λ r. ⌜ r .0 ≡ leftEnd (now (left .entry)) ⌝ }
+    ensures { λ r. ⌜ r .0 ≡ leftEnd (lent left) ⌝ }
 {
     if left.len() <= 4294967295 {
         return Cursor(left.len() as u32);
@@ -27,19 +28,19 @@ fn left_end(left: &[u8]) -> Cursor
 
 // What a reader is asked, on its bytes. Its cursors count from the first of them.
 fn byte_of(left: &[u8]) -> NextByte
-    ensures { λ r. ⌜ r ≡ byteOf (now (left .entry)) ⌝ }
+    ensures { λ r. ⌜ r ≡ byteOf (lent left) ⌝ }
 {
     Cursor(0).next_byte(left, left_end(left))
 }
 
 fn four_of(left: &[u8]) -> NextFour
-    ensures { λ r. ⌜ r ≡ fourOf (now (left .entry)) ⌝ }
+    ensures { λ r. ⌜ r ≡ fourOf (lent left) ⌝ }
 {
     Cursor(0).next_four(left, left_end(left))
 }
 
 fn text_of(left: &[u8]) -> NextText
-    ensures { λ r. ⌜ r ≡ textOf (now (left .entry)) ⌝ }
+    ensures { λ r. ⌜ r ≡ textOf (lent left) ⌝ }
 {
     Cursor(0).next_text(left, left_end(left))
 }
@@ -70,19 +71,19 @@ pub fn text_to_zero<'a>(r: SpanReader<'a>) -> NextText
 
 // A reader is made and asked once.
 fn first_byte(left: &[u8]) -> NextByte
-    ensures { λ r. ⌜ r ≡ byteOf (now (left .entry)) ⌝ }
+    ensures { λ r. ⌜ r ≡ byteOf (lent left) ⌝ }
 {
     next_byte(reader_of(left))
 }
 
 fn first_four(left: &[u8]) -> NextFour
-    ensures { λ r. ⌜ r ≡ fourOf (now (left .entry)) ⌝ }
+    ensures { λ r. ⌜ r ≡ fourOf (lent left) ⌝ }
 {
     next_four(reader_of(left))
 }
 
 fn first_text(left: &[u8]) -> NextText
-    ensures { λ r. ⌜ r ≡ textOf (now (left .entry)) ⌝ }
+    ensures { λ r. ⌜ r ≡ textOf (lent left) ⌝ }
 {
     text_to_zero(reader_of(left))
 }
@@ -90,7 +91,7 @@ fn first_text(left: &[u8]) -> NextText
 // The bytes that a cursor leaves of a span.
 fn left_of(bytes: &[u8], at: Cursor, end: Cursor) -> &[u8]
     requires { ⌜ (at .0 ≤ end .0) × (end .0 ≤ length (now bytes)) ⌝ }
-    ensures { λ r. ⌜ now r ≡ part (now (bytes .entry)) (at .0) (end .0) ⌝ }
+    ensures { λ r. ⌜ now r ≡ part (lent bytes) (at .0) (end .0) ⌝ }
 {
     let from = at.0 as usize;
     let to = end.0 as usize;
@@ -99,7 +100,7 @@ fn left_of(bytes: &[u8], at: Cursor, end: Cursor) -> &[u8]
 
 pub fn byte_in(bytes: &[u8], at: Cursor, end: Cursor) -> NextByte
     requires { ⌜ (at .0 ≤ end .0) × (end .0 ≤ length (now bytes)) ⌝ }
-    ensures { λ r. ⌜ r ≡ byteAt (now (bytes .entry)) (at .0) (end .0) ⌝ }
+    ensures { λ r. ⌜ r ≡ byteAt (lent bytes) (at .0) (end .0) ⌝ }
 {
     match first_byte(left_of(bytes, at, end)) {
         NextByte::Value(b, next) => NextByte::Value(b, Cursor(at.0 + next.0)),
@@ -109,7 +110,7 @@ pub fn byte_in(bytes: &[u8], at: Cursor, end: Cursor) -> NextByte
 
 pub fn four_in(bytes: &[u8], at: Cursor, end: Cursor) -> NextFour
     requires { ⌜ (at .0 ≤ end .0) × (end .0 ≤ length (now bytes)) ⌝ }
-    ensures { λ r. ⌜ r ≡ fourAt (now (bytes .entry)) (at .0) (end .0) ⌝ }
+    ensures { λ r. ⌜ r ≡ fourAt (lent bytes) (at .0) (end .0) ⌝ }
 {
     match first_four(left_of(bytes, at, end)) {
         NextFour::Value(v, next) => NextFour::Value(v, Cursor(at.0 + next.0)),
@@ -119,7 +120,7 @@ pub fn four_in(bytes: &[u8], at: Cursor, end: Cursor) -> NextFour
 
 pub fn text_in(bytes: &[u8], at: Cursor, end: Cursor) -> NextText
     requires { ⌜ (at .0 ≤ end .0) × (end .0 ≤ length (now bytes)) ⌝ }
-    ensures { λ r. ⌜ r ≡ textAt (now (bytes .entry)) (at .0) (end .0) ⌝ }
+    ensures { λ r. ⌜ r ≡ textAt (lent bytes) (at .0) (end .0) ⌝ }
 {
     match first_text(left_of(bytes, at, end)) {
         NextText::Bytes {

@@ -1,9 +1,1 @@
-pub mod Heads
-pub mod Entries
-pub mod Walking
-pub mod Outcomes
-pub mod Leaning
-pub mod Spelling
-pub mod Fitting
-pub mod Holding
 pub mod Loops

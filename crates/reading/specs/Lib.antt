@@ -1,4 +1,1 @@
-pub mod Reads
-pub mod Heads
 pub mod Blocks
-pub mod Fits

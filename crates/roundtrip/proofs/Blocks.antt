@@ -10,11 +10,11 @@ use Rattle.block.specs.declared.State.{State}
 use Rattle.block.specs.Block.{state, endOf}
 use Rattle.kept.specs.Tables.{Kept}
 use Rattle.kept.proofs.Later.{Later, later-same, later-then}
-use Rattle.steps.specs.Source.{source}
-use Rattle.reading.specs.declared.Answer.{Answer}
-use Rattle.reading.specs.declared.Answer.the-variants as answer
-use Rattle.reading.specs.Reads.{Outcome, outcome, readOf}
-use Rattle.reading.specs.Blocks.{goOn, readsFrom}
+use Rattle.sources.specs.Source.{source}
+use Rattle.entries.specs.declared.Answer.{Answer}
+use Rattle.entries.specs.declared.Answer.the-variants as answer
+use Rattle.entries.specs.Outcomes.{Outcome, outcome}
+use Rattle.reads.specs.Reads.{readOf, goOn, readsFrom}
 use Rattle.roundtrip.specs.Room.{listed, textWanted, rowsAdded, rowsFor}
 use Rattle.roundtrip.specs.Back.{NameIs, RowsAre, readTimes}
 use Rattle.roundtrip.proofs.Keeping.{stays-name, stays-rows}

@@ -6,12 +6,13 @@ use native.Mathlib.Numerals.{add-one}
 use lib.ListN.{length, getD}
 use Rattle.block.specs.Block.{state, starts}
 use Rattle.kept.specs.Tables.{Kept, keeping}
-use Rattle.steps.specs.Source.{source}
-use Rattle.reading.specs.declared.Answer.the-variants as answer
-use Rattle.reading.specs.Reads.{Outcome, outcome, readOf}
+use Rattle.sources.specs.Source.{source}
+use Rattle.entries.specs.declared.Answer.the-variants as answer
+use Rattle.entries.specs.Outcomes.{Outcome, outcome}
+use Rattle.reads.specs.Reads.{readOf}
 use Rattle.reading.specs.Blocks.{blockOf}
 use Rattle.writing.specs.declared.WriteAnswer.the-variants.{Written}
-use Rattle.writing.specs.Names.{namesOf}
+use Rattle.inputs.specs.Inputs.{namesOf}
 use Rattle.writing.specs.Writes.{Writing, writing, writeOf}
 use Rattle.roundtrip.specs.Back.{Roomy, NameIs, InputBack, readTimes, OneByOne}
 use Rattle.roundtrip.proofs.RoundTrip.{reads-back-written, reads-one-by-one}

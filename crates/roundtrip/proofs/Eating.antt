@@ -13,8 +13,8 @@ use Rattle.block.specs.Open.{Open}
 use Rattle.block.proofs.Laws.{cursor-set-same, cursor-set-other}
 use Rattle.laying.specs.Puts.{Put, put, contentOf}
 use Rattle.laying.proofs.Passes.{share-same, share-other, content-more}
-use Rattle.names.specs.Names.{past}
-use Rattle.names.proofs.Cursors.{length-past}
+use Rattle.moving.specs.Moves.{past}
+use Rattle.moving.proofs.Moves.{length-past}
 
 -- What puts add to a span
 

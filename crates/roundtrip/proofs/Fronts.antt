@@ -12,7 +12,7 @@ use Rattle.spans.specs.declared.NextFour.the-variants as four
 use Rattle.spans.specs.declared.NextText.the-variants as text
 use Rattle.spans.proofs.Laws.{byte-back, four-back, text-back}
 use Rattle.block.specs.Block.{spanOf, endOf, cursorOf}
-use Rattle.steps.specs.Source.{source, byteIn, fourIn, textIn}
+use Rattle.sources.specs.Source.{source, byteIn, fourIn, textIn}
 use Rattle.roundtrip.proofs.Eating.{First}
 
 module _ (bytes dir cur : List ℕ) (p i : ℕ) where

@@ -13,10 +13,12 @@ use Rattle.spans.specs.declared.NextFour.the-variants as four
 use Rattle.spans.specs.Spans.{cursor, fourBytes}
 use Rattle.block.specs.Block.{spanOf, cursorOf}
 use Rattle.block.proofs.Laws.{span-below, span-stream}
-use Rattle.steps.specs.Source.{source, byteIn, fourIn}
-use Rattle.names.specs.Names.{past}
-use Rattle.reading.specs.declared.Head.the-variants as head
-use Rattle.reading.specs.Reads.{dupHead, diffHead, typedHead, headOf, headPast}
+use Rattle.block.specs.Streams.{typeStream, dupStream, diffStream}
+use Rattle.tokens.specs.Types.{dupNumber, diffNumber}
+use Rattle.sources.specs.Source.{source, byteIn, fourIn}
+use Rattle.moving.specs.Moves.{past}
+use Rattle.heads.specs.declared.Head.the-variants as head
+use Rattle.heads.specs.Heads.{dupHead, diffHead, typedHead, headOf, headPast}
 use Rattle.laying.specs.Puts.{Put, put}
 use Rattle.roundtrip.proofs.Eating.{Left, first, eat, first-other}
 use Rattle.roundtrip.proofs.Fronts.{byte-first, four-first}
@@ -40,29 +42,29 @@ module _ (bytes dir cur : List ℕ) (t i d : ℕ) (low : 1 ≤ i) (high : i ≤ 
   head-past = eat bytes dir (past cur (spanOf 0 0) 1) (spanOf 0 i) (fourBytes d) rest (span-below 0 i (omega arith) high) typed
 
 module _ (bytes dir cur : List ℕ) (n d : ℕ) (small : d < 2 ^ 32) (rest : List Put) where
-  pub dup-head : 1 ≤ d → d ≤ n → Left bytes dir cur (put (spanOf 0 0) (5 ∷ []) ∷ put (spanOf 0 5) (fourBytes d) ∷ rest)
+  pub dup-head : 1 ≤ d → d ≤ n → Left bytes dir cur (put (spanOf 0 typeStream) (dupNumber ∷ []) ∷ put (spanOf 0 dupStream) (fourBytes d) ∷ rest)
       → headOf (source bytes dir cur) n ≡ head.Dup (record { 0 = d })
   unfolding headOf typedHead dupHead
   dup-head h k l =
-      ap (typedHead (source bytes dir cur) n) (type-there bytes dir cur 5 5 d (omega arith) (omega arith) small rest l)
-      ∙ pick-true _ _ (eq-eqb 5 5 refl)
-      ∙ ap (dupHead n) (distance-there bytes dir cur 5 5 d (omega arith) (omega arith) small rest l)
+      ap (typedHead (source bytes dir cur) n) (type-there bytes dir cur dupNumber dupStream d (omega arith) (omega arith) small rest l)
+      ∙ pick-true _ _ (eq-eqb dupNumber dupNumber refl)
+      ∙ ap (dupHead n) (distance-there bytes dir cur dupNumber dupStream d (omega arith) (omega arith) small rest l)
       ∙ pick-true _ _ (both-of (le-leb _ _ h) (le-leb _ _ k))
 
-  diff-head : pick (eqb n 0) (eqb d 0) (both (leb 1 d) (leb d n)) ≡ true → Left bytes dir cur (put (spanOf 0 0) (6 ∷ []) ∷ put (spanOf 0 6) (fourBytes d) ∷ rest)
+  diff-head : pick (eqb n 0) (eqb d 0) (both (leb 1 d) (leb d n)) ≡ true → Left bytes dir cur (put (spanOf 0 typeStream) (diffNumber ∷ []) ∷ put (spanOf 0 diffStream) (fourBytes d) ∷ rest)
       → headOf (source bytes dir cur) n ≡ head.Diff (record { 0 = d })
   unfolding headOf typedHead diffHead
   diff-head t l =
-      ap (typedHead (source bytes dir cur) n) (type-there bytes dir cur 6 6 d (omega arith) (omega arith) small rest l)
-      ∙ pick-false _ _ (ne-eqb 6 5 (λ (q : 6 ≡ 5). omega arith))
-      ∙ pick-true _ _ (eq-eqb 6 6 refl)
-      ∙ ap (diffHead n) (distance-there bytes dir cur 6 6 d (omega arith) (omega arith) small rest l)
+      ap (typedHead (source bytes dir cur) n) (type-there bytes dir cur diffNumber diffStream d (omega arith) (omega arith) small rest l)
+      ∙ pick-false _ _ (ne-eqb diffNumber dupNumber (λ (q : diffNumber ≡ dupNumber). omega arith))
+      ∙ pick-true _ _ (eq-eqb diffNumber diffNumber refl)
+      ∙ ap (diffHead n) (distance-there bytes dir cur diffNumber diffStream d (omega arith) (omega arith) small rest l)
       ∙ pick-true _ _ t
 
-  pub first-head : n ≡ 0 → d ≡ 0 → Left bytes dir cur (put (spanOf 0 0) (6 ∷ []) ∷ put (spanOf 0 6) (fourBytes d) ∷ rest)
+  pub first-head : n ≡ 0 → d ≡ 0 → Left bytes dir cur (put (spanOf 0 typeStream) (diffNumber ∷ []) ∷ put (spanOf 0 diffStream) (fourBytes d) ∷ rest)
       → headOf (source bytes dir cur) n ≡ head.Diff (record { 0 = d })
   first-head a b l = diff-head (pick-true _ _ (eq-eqb n 0 a) ∙ eq-eqb d 0 b) l
 
-  pub later-head : 1 ≤ d → d ≤ n → Left bytes dir cur (put (spanOf 0 0) (6 ∷ []) ∷ put (spanOf 0 6) (fourBytes d) ∷ rest)
+  pub later-head : 1 ≤ d → d ≤ n → Left bytes dir cur (put (spanOf 0 typeStream) (diffNumber ∷ []) ∷ put (spanOf 0 diffStream) (fourBytes d) ∷ rest)
       → headOf (source bytes dir cur) n ≡ head.Diff (record { 0 = d })
   later-head h k l = diff-head (pick-false _ _ (ne-eqb n 0 (λ q. omega arith)) ∙ both-of (le-leb _ _ h) (le-leb _ _ k)) l

@@ -10,9 +10,9 @@ use lib.ListN.{length, getD, length-append}
 use Rattle.base.specs.Same.{same}
 use Rattle.base.proofs.Choice.{pick-true, pick-false, both-true, by-test, pick-holds}
 use Rattle.classes.specs.Classes.{allAllowed}
-use Rattle.splitting.specs.Choices.{anew}
-use Rattle.writing.specs.declared.Judged.the-variants.{Fine, Bad}
-use Rattle.writing.specs.Names.{namesAfter, namesOf, ended, goodName, judgedFrom}
+use Rattle.references.specs.References.{anew}
+use Rattle.inputs.specs.declared.Judged.the-variants.{Fine, Bad}
+use Rattle.inputs.specs.Inputs.{namesAfter, namesOf, ended, goodName, judgedFrom}
 use Rattle.roundtrip.specs.Room.{listed, textWanted, rowsAdded, rowsFor, rowsWanted}
 use Rattle.roundtrip.proofs.Spelling.{Good, tokens-most}
 use Rattle.roundtrip.proofs.Reading.{AllGood}

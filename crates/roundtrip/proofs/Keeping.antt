@@ -12,14 +12,15 @@ use Rattle.base.proofs.Below.{take-written}
 use Rattle.base.proofs.Holding.{Holds, holds-written, holds-left, holds-part, holds-same, holds-stays}
 use Rattle.block.specs.Block.{state}
 use Rattle.kept.specs.declared.Entry.{Entry}
-use Rattle.kept.specs.Tables.{Kept, keeping, entryAt}
+use Rattle.kept.specs.Tables.{entrySize, rowSize, Kept, keeping, entryAt}
 use Rattle.kept.proofs.Laws.{room-of}
 use Rattle.kept.proofs.Frame.{entry-holds}
 use Rattle.kept.proofs.Later.{Later, entry-later}
-use Rattle.steps.specs.Source.{Source, earlier}
+use Rattle.sources.specs.Source.{Source, earlier}
 use Rattle.names.specs.Names.{Draft}
-use Rattle.reading.specs.declared.Answer.the-variants as answer
-use Rattle.reading.specs.Reads.{outcome, roomFor, kept, keepOf}
+use Rattle.entries.specs.declared.Answer.the-variants as answer
+use Rattle.entries.specs.Outcomes.{outcome}
+use Rattle.entries.specs.Entries.{roomFor, kept, keepOf, entryOf}
 use Rattle.roundtrip.specs.Rows.{splitRows, tokensIn}
 use Rattle.roundtrip.specs.Back.{NameIs, RowsAre}
 use Rattle.roundtrip.proofs.Spelling.{RowsOf, length-split}
@@ -59,29 +60,29 @@ stays-rows m n i s p h is =
     let c : ℕ = entryAt (m .names) i .rows in
     let many : c ≡ tokensIn s = is .rows .many in
     let o : ℕ = is .rows .origin in
-    let l : length (splitRows s o) ≡ 5 * tokensIn s = length-split s o in
-    let e : 5 * (f + c) ≡ 5 * f + length (splitRows s o) = omega arith in
-    let r : part (n .rows) (5 * f) (5 * (f + c)) ≡ splitRows s o =
-    ap (part (n .rows) (5 * f)) e
-    ∙ holds-part (n .rows) (5 * f) (splitRows s o) (holds-same (m .rows) (n .rows) (5 * f) (splitRows s o) (5 * m .state .rows) (sym (p .in-rows)) (omega (arith, is .inside)) (is .rows .rows)) in
+    let l : length (splitRows s o) ≡ rowSize * tokensIn s = length-split s o in
+    let e : rowSize * (f + c) ≡ rowSize * f + length (splitRows s o) = omega arith in
+    let r : part (n .rows) (rowSize * f) (rowSize * (f + c)) ≡ splitRows s o =
+    ap (part (n .rows) (rowSize * f)) e
+    ∙ holds-part (n .rows) (rowSize * f) (splitRows s o) (holds-same (m .rows) (n .rows) (rowSize * f) (splitRows s o) (rowSize * m .state .rows) (sym (p .in-rows)) (omega (arith, is .inside)) (is .rows .rows)) in
     record {
       many = sym (ap (λ (x : Entry). x .rows) q) ∙ many;
       origin = o;
       text = holds-part (n .text) o s (holds-same (m .text) (n .text) o s (m .state .text) (sym (p .in-text)) (is .rows .below) (is .rows .text));
-      rows = subst (λ (x : Entry). part (n .rows) (5 * x .first) (5 * (x .first + x .rows)) ≡ splitRows s o) q r;
+      rows = subst (λ (x : Entry). part (n .rows) (rowSize * x .first) (rowSize * (x .first + x .rows)) ≡ splitRows s o) q r;
     }
 
 -- one name kept: d is what was read, and its rows, added now or kept before, are `many` rows from `first` on
-module _ (m : Kept) (s : List ℕ) (d : Draft) (text : d .text ≡ s) (fives : length (d .rows) ≡ 5 * d .count)
-    (roomy : m .state .text + length s + 1 ≤ length (m .text)) (fits : 5 * (m .state .names + 1) ≤ length (m .names)) (enough : 5 * (m .state .rows + d .count) ≤ length (m .rows))
+module _ (m : Kept) (s : List ℕ) (d : Draft) (text : d .text ≡ s) (whole : length (d .rows) ≡ rowSize * d .count)
+    (roomy : m .state .text + length s + 1 ≤ length (m .text)) (fits : entrySize * (m .state .names + 1) ≤ length (m .names)) (enough : rowSize * (m .state .rows + d .count) ≤ length (m .rows))
     (first many distance : ℕ) where
   abbrev pub after : Kept
   after =
       keeping
       (state (m .state .count) (m .state .names + 1) (m .state .text + length (d .text) + 1) (m .state .rows + d .count))
       (written (m .text) (m .state .text) (d .text ++ (10 ∷ [])))
-      (written (m .names) (5 * m .state .names) (m .state .text ∷ length (d .text) ∷ first ∷ many ∷ distance ∷ []))
-      (written (m .rows) (5 * m .state .rows) (d .rows))
+      (written (m .names) (entrySize * m .state .names) (entryOf (m .state) (length (d .text)) first many distance))
+      (written (m .rows) (rowSize * m .state .rows) (d .rows))
 
   text-length : length (d .text) ≡ length s
   text-length = ap length text
@@ -91,19 +92,17 @@ module _ (m : Kept) (s : List ℕ) (d : Draft) (text : d .text ≡ s) (fives : l
   kept-back src =
       pick-true _ _
       (both-of (le-leb (m .state .text + length (d .text) + 1) (length (m .text)) (omega (arith, text-length)))
-      (both-of (le-leb _ _ (room-of (m .names) (m .state .names + 1) fits))
-      (le-leb _ _ (room-of (m .rows) (m .state .rows + d .count) enough))))
+      (both-of (le-leb _ _ (room-of entrySize (omega arith) (m .names) (m .state .names + 1) fits))
+      (le-leb _ _ (room-of rowSize (omega arith) (m .rows) (m .state .rows + d .count) enough))))
 
   -- the new name and its byte 10
   pub after-text : Holds (after .text) (m .state .text) (s ++ 10 ∷ [])
   after-text = subst (λ (l : List ℕ). Holds (after .text) (m .state .text) (l ++ 10 ∷ [])) text (holds-written (m .text) (m .state .text) (d .text ++ 10 ∷ []) (omega arith))
 
-  abbrev five : List ℕ
-  five = m .state .text ∷ length (d .text) ∷ first ∷ many ∷ distance ∷ []
-
   after-entry : entryAt (after .names) (m .state .names) ≡ record { start = m .state .text; length = length (d .text); first = first; rows = many; distance = distance }
   after-entry =
-      entry-holds (after .names) (m .state .names) (m .state .text) (length (d .text)) first many distance (holds-written (m .names) (5 * m .state .names) five (omega arith))
+      entry-holds (after .names) (m .state .names) (record { start = m .state .text; length = length (d .text); first = first; rows = many; distance = distance })
+      (holds-written (m .names) (entrySize * m .state .names) (entryOf (m .state) (length (d .text)) first many distance) (omega arith))
 
   pub after-is : RowsOf (earlier (after .text) (after .rows) first many) (after .state .text) s → first + many ≤ after .state .rows → EntryIs after (m .state .names) s
   after-is rows inside =
@@ -122,8 +121,8 @@ module _ (m : Kept) (s : List ℕ) (d : Draft) (text : d .text ≡ s) (fives : l
         text = omega arith;
         rows = omega arith;
         in-text = take-written (m .text) (m .state .text) (d .text ++ (10 ∷ [])) (m .state .text) (omega arith) (omega arith);
-        in-names = take-written (m .names) (5 * m .state .names) five (5 * m .state .names) (omega arith) (omega arith);
-        in-rows = take-written (m .rows) (5 * m .state .rows) (d .rows) (5 * m .state .rows) (omega arith) (omega arith);
+        in-names = take-written (m .names) (entrySize * m .state .names) (entryOf (m .state) (length (d .text)) first many distance) (entrySize * m .state .names) (omega arith) (omega arith);
+        in-rows = take-written (m .rows) (rowSize * m .state .rows) (d .rows) (rowSize * m .state .rows) (omega arith) (omega arith);
       }
 
   ten : length (d .text ++ (10 ∷ [])) ≡ length s + 1
@@ -133,10 +132,10 @@ module _ (m : Kept) (s : List ℕ) (d : Draft) (text : d .text ≡ s) (fives : l
   after-texts = length-written (m .text) (m .state .text) (d .text ++ (10 ∷ [])) (omega (arith, ten))
 
   pub after-names : length (after .names) ≡ length (m .names)
-  after-names = length-written (m .names) (5 * m .state .names) five (omega arith)
+  after-names = length-written (m .names) (entrySize * m .state .names) (entryOf (m .state) (length (d .text)) first many distance) (omega arith)
 
   pub after-rows : length (after .rows) ≡ length (m .rows)
-  after-rows = length-written (m .rows) (5 * m .state .rows) (d .rows) (omega arith)
+  after-rows = length-written (m .rows) (rowSize * m .state .rows) (d .rows) (omega arith)
 
   -- rows added now
   pub rows-new : d .rows ≡ splitRows s (m .state .text) → d .count ≡ tokensIn s → RowsOf (earlier (after .text) (after .rows) (m .state .rows) (d .count)) (after .state .text) s
@@ -145,7 +144,7 @@ module _ (m : Kept) (s : List ℕ) (d : Draft) (text : d .text ≡ s) (fives : l
         origin = m .state .text;
         text = holds-left (after .text) (m .state .text) s (10 ∷ []) after-text;
         below = omega (arith, text-length);
-        rows = subst (λ (l : List ℕ). Holds (after .rows) (5 * m .state .rows) l) r (holds-written (m .rows) (5 * m .state .rows) (d .rows) (omega arith));
+        rows = subst (λ (l : List ℕ). Holds (after .rows) (rowSize * m .state .rows) l) r (holds-written (m .rows) (rowSize * m .state .rows) (d .rows) (omega arith));
         many = c;
       }
 
@@ -157,7 +156,7 @@ module _ (m : Kept) (s : List ℕ) (d : Draft) (text : d .text ≡ s) (fives : l
         text = holds-stays (m .text) (o .origin) s (m .state .text) (d .text ++ (10 ∷ [])) (o .below) (omega arith) (o .text);
         below = omega (arith, o .below);
         rows =
-            holds-stays (m .rows) (5 * f) (splitRows s (o .origin)) (5 * m .state .rows) (d .rows)
+            holds-stays (m .rows) (rowSize * f) (splitRows s (o .origin)) (rowSize * m .state .rows) (d .rows)
             (omega (arith, length-split s (o .origin), o .many)) (omega arith) (o .rows);
         many = o .many;
       }

@@ -14,15 +14,16 @@ use Rattle.base.proofs.Equal.{same-equal}
 use Rattle.base.proofs.Holding.{Holds}
 use Rattle.tokens.specs.declared.Padded.{Padded}
 use Rattle.kept.specs.declared.Row.{Row}
-use Rattle.steps.specs.Source.{Earlier}
-use Rattle.steps.specs.Steps.{hasRow, rowHere, hasKind}
-use Rattle.splitting.specs.declared.Piece.{Piece}
-use Rattle.splitting.specs.declared.Piece.the-variants.{String, Char, Digits, Digits0}
-use Rattle.splitting.specs.declared.Rise.{Rise}
-use Rattle.splitting.specs.declared.Choice.{Choice}
-use Rattle.splitting.specs.declared.Choice.the-variants.{Itself, Delta, Delta0, Match, End}
-use Rattle.splitting.specs.Split.{pieceAt}
-use Rattle.splitting.specs.Choices.{riseOf, leanString, leanChar, byRise, leanDigits, byRise0, leanDigits0, lean, choiceAt}
+use Rattle.sources.specs.Source.{Earlier}
+use Rattle.repeats.specs.Repeats.{hasRow, rowHere, hasKind}
+use Rattle.pieces.specs.declared.Piece.{Piece}
+use Rattle.pieces.specs.declared.Piece.the-variants.{String, Char, Digits, Digits0}
+use Rattle.rises.specs.declared.Rise.{Rise}
+use Rattle.choices.specs.declared.Choice.{Choice}
+use Rattle.choices.specs.declared.Choice.the-variants.{Itself, Delta, Delta0, Match, End}
+use Rattle.pieces.specs.Pieces.{pieceAt}
+use Rattle.rises.specs.Rises.{riseOf}
+use Rattle.choices.specs.Choices.{leanString, leanChar, byRise, leanDigits, byRise0, leanDigits0, lean, choiceAt}
 use Rattle.roundtrip.specs.Rows.{pieceBytes, pieceKind, pieceNumber, pieceWidth}
 
 -- a kept row is that of a token of a name

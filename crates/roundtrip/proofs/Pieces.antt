@@ -17,9 +17,11 @@ use Rattle.base.proofs.Every.{every-at}
 use Rattle.base.proofs.Lists.{part-first, part-none}
 use Rattle.digits.proofs.Laws.{value-below, padded-value, printed-value, fits-of, fits-nine}
 use Rattle.classes.specs.Classes.{isAllowed, allAllowed}
-use Rattle.splitting.specs.declared.Piece.{Piece}
-use Rattle.splitting.specs.declared.Piece.the-variants.{String, Char, Digits, Digits0}
-use Rattle.splitting.specs.Split.{runClass, runAt, cutAt, textPiece, numberPiece, pieceAt}
+use Rattle.kept.specs.Tables.{rowSize}
+use Rattle.pieces.specs.declared.Piece.{Piece}
+use Rattle.pieces.specs.declared.Piece.the-variants.{String, Char, Digits, Digits0}
+use Rattle.splitting.specs.Split.{runClass, runAt, cutAt}
+use Rattle.pieces.specs.Pieces.{textPiece, numberPiece, pieceAt}
 use Rattle.splitting.proofs.Runs.{run-range, run-number, cut-last, cut-run}
 use Rattle.roundtrip.specs.Rows.{pieceBytes, pieceRow, rowsFrom, countFrom}
 
@@ -127,7 +129,7 @@ unfolding countFrom
 count-out s zero p a h = refl
 count-out s (suc f) p a h = pick-false _ _ (le-ltb _ _ h)
 
-pub length-row : (s : List ℕ) (x : Piece) (at : ℕ) → length (pieceRow s x at) ≡ 5
+pub length-row : (s : List ℕ) (x : Piece) (at : ℕ) → length (pieceRow s x at) ≡ rowSize
 unfolding pieceRow
 length-row s x at = refl
 
@@ -137,7 +139,7 @@ count-most s zero p a = omega arith
 count-most s (suc f) p a =
     pick-holds (λ (n : ℕ). n ≤ suc f) (ltb a (length s)) _ _ (λ t. omega (arith, count-most s f (p + 1) (cutAt s p a))) (λ t. omega arith)
 
-pub length-rows : (s : List ℕ) (at f p a : ℕ) → length (rowsFrom s at f p a) ≡ 5 * countFrom s f p a
+pub length-rows : (s : List ℕ) (at f p a : ℕ) → length (rowsFrom s at f p a) ≡ rowSize * countFrom s f p a
 unfolding rowsFrom countFrom
 length-rows s at zero p a = refl
 length-rows s at (suc f) p a =
@@ -146,7 +148,7 @@ length-rows s at (suc f) p a =
     let h : a < length s = ltb-true _ _ t in
     let n : ℕ = countFrom s f (p + 1) (cutAt s p a) in
     let r : List ℕ = rowsFrom s at f (p + 1) (cutAt s p a) in
-    let q : length r ≡ 5 * n = length-rows s at f (p + 1) (cutAt s p a) in
+    let q : length r ≡ rowSize * n = length-rows s at f (p + 1) (cutAt s p a) in
     ap length (rows-more s f p a at h) ∙ length-append (pieceRow s (pieceAt s p a) (at + a)) r
     ∙ omega (arith, length-row s (pieceAt s p a) (at + a), count-more s f p a h))
     (λ t.

@@ -18,24 +18,35 @@ use Rattle.spans.specs.Spans.{fourBytes}
 use Rattle.block.specs.Block.{state, spanOf, endOf}
 use Rattle.block.specs.Open.{Open}
 use Rattle.block.proofs.Laws.{each-at-end}
+use Rattle.block.specs.Streams.{typeStream, dupStream, diffStream}
 use Rattle.kept.specs.declared.Entry.{Entry}
-use Rattle.kept.specs.Tables.{Kept, entryAt}
+use Rattle.kept.specs.Tables.{entrySize, rowSize, Kept, entryAt}
 use Rattle.kept.proofs.Later.{Later}
 use Rattle.kept.specs.Judgement.{counts}
 use Rattle.kept.specs.Inside.{Counted}
-use Rattle.steps.specs.Source.{Source, source, Earlier, earlier}
+use Rattle.tokens.specs.Types.{dupNumber, diffNumber}
+use Rattle.sources.specs.Source.{Source, source, Earlier, earlier}
 use Rattle.names.specs.Names.{Draft, draft, nameOf}
-use Rattle.reading.specs.declared.Head.{Head}
-use Rattle.reading.specs.declared.Head.the-variants as head
-use Rattle.reading.specs.declared.Answer.the-variants as answer
-use Rattle.reading.specs.Fits.{AllFit}
-use Rattle.reading.specs.Reads.{outcome, headOf, keepOf, headPast, dupOf, namedOf, diffOf, rowsOf, none, entryBack, headedOf, nextOf, readOf}
-use Rattle.reading.proofs.Heads.{head-same}
-use Rattle.reading.proofs.Holding.{next-holds, read-next}
-use Rattle.splitting.specs.declared.Reference.the-variants.{Dup, Diff}
-use Rattle.splitting.specs.Choices.{anew, referenceOf, leansOn, choicesOf}
+use Rattle.heads.specs.declared.Head.{Head}
+use Rattle.heads.specs.declared.Head.the-variants as head
+use Rattle.entries.specs.declared.Answer.the-variants as answer
+use Rattle.earlier.specs.Fits.{AllFit}
+use Rattle.entries.specs.Outcomes.{outcome}
+use Rattle.heads.specs.Heads.{headOf, headPast}
+use Rattle.entries.specs.Entries.{keepOf}
+use Rattle.copying.specs.Copies.{dupOf}
+use Rattle.naming.specs.Naming.{namedOf, diffOf}
+use Rattle.earlier.specs.Back.{rowsOf, none, entryBack}
+use Rattle.inner.specs.Next.{headedOf, nextOf}
+use Rattle.reads.specs.Reads.{readOf}
+use Rattle.heads.proofs.Heads.{head-same}
+use Rattle.reads.proofs.Holding.{next-holds, read-next}
+use Rattle.references.specs.declared.Reference.the-variants.{Dup, Diff}
+use Rattle.references.specs.References.{anew, referenceOf, leansOn}
+use Rattle.choices.specs.Choices.{choicesOf}
 use Rattle.laying.specs.Puts.{Put, put}
-use Rattle.writing.specs.NamePuts.{tokenPuts, headPuts, referencePuts, namePuts, putsFrom}
+use Rattle.tokenputs.specs.TokenPuts.{tokenPuts}
+use Rattle.nameputs.specs.NamePuts.{headPuts, referencePuts, namePuts, putsFrom}
 use Rattle.roundtrip.specs.Rows.{splitRows, tokensIn}
 use Rattle.roundtrip.specs.Room.{textWanted, rowsAdded, rowsFor}
 use Rattle.roundtrip.proofs.Eating.{Left, left-open, left-none}
@@ -58,8 +69,8 @@ pub record Reached (bytes dir cur : List ℕ) (m : Kept) (before : List ℕ) (co
   pub last : 1 ≤ m .state .names → Good before × EntryIs m (m .state .names - 1) before
   pub good : AllGood coming
   pub texts : m .state .text + textWanted coming ≤ length (m .text)
-  pub entries : 5 * (m .state .names + length coming) ≤ length (m .names)
-  pub rows : 5 * (m .state .rows + rowsFor (m .state .names) before coming) ≤ length (m .rows)
+  pub entries : entrySize * (m .state .names + length coming) ≤ length (m .names)
+  pub rows : rowSize * (m .state .rows + rowsFor (m .state .names) before coming) ≤ length (m .rows)
 
 -- a read that kept the name s
 pub record ReadBack (bytes dir cur : List ℕ) (m : Kept) (before s : List ℕ) (ss : List (List ℕ)) : Type 0 where
@@ -107,7 +118,7 @@ rows-nothing text rows used =
       origin = 0;
       text = holds-none text 0;
       below = omega arith;
-      rows = rw (rows-out [] 127 1 0 0 (omega arith)) (holds-none rows (5 * 0));
+      rows = rw (rows-out [] 127 1 0 0 (omega arith)) (holds-none rows (rowSize * 0));
       many = sym (count-out [] 127 1 0 (omega arith));
     }
 
@@ -151,7 +162,7 @@ module _ (bytes dir cur : List ℕ) (m : Kept) (before : List ℕ) (directory : 
     unfolding textWanted
     text-room = omega (arith, r .texts)
 
-    row-room : 5 * (m .state .rows + (rowsAdded k before s + rowsFor (k + 1) s ss)) ≤ length (m .rows)
+    row-room : rowSize * (m .state .rows + (rowsAdded k before s + rowsFor (k + 1) s ss)) ≤ length (m .rows)
     unfolding rowsFor
     row-room = r .rows
 
@@ -160,31 +171,31 @@ module _ (bytes dir cur : List ℕ) (m : Kept) (before : List ℕ) (directory : 
     puts ps q = subst (λ (x : List Put). Left bytes dir cur (x ++ putsFrom (k + 1) s ss)) q (r .left)
 
     -- what was read is kept
-    module _ (d : Draft) (text : d .text ≡ s) (fives : length (d .rows) ≡ 5 * d .count) (count : d .count ≡ rowsAdded k before s) (first many distance : ℕ) where
+    module _ (d : Draft) (text : d .text ≡ s) (whole : length (d .rows) ≡ rowSize * d .count) (count : d .count ≡ rowsAdded k before s) (first many distance : ℕ) where
       roomy : m .state .text + length s + 1 ≤ length (m .text)
       roomy = omega (arith, text-room)
 
-      fits : 5 * (k + 1) ≤ length (m .names)
-      fits = let all : 5 * (k + suc (length ss)) ≤ length (m .names) = r .entries in omega arith
+      fits : entrySize * (k + 1) ≤ length (m .names)
+      fits = let all : entrySize * (k + suc (length ss)) ≤ length (m .names) = r .entries in omega arith
 
-      enough : 5 * (m .state .rows + d .count) ≤ length (m .rows)
+      enough : rowSize * (m .state .rows + d .count) ≤ length (m .rows)
       enough = omega (arith, row-room, count)
 
       abbrev then : Kept
-      then = after m s d text fives roomy fits enough first many distance
+      then = after m s d text whole roomy fits enough first many distance
 
       kept-read : readOf src m ≡ keepOf src m d first many distance → Left bytes dir (d .cur) (putsFrom (k + 1) s ss)
           → RowsOf (earlier (then .text) (then .rows) first many) (then .state .text) s → first + many ≤ then .state .rows
           → ReadBack bytes dir cur m before s ss
       kept-read q l rows inside =
           let all : m .state .count ≡ k + suc (length ss) = r .all in
-          let table : 5 * (k + suc (length ss)) ≤ length (m .names) = r .entries in
+          let table : entrySize * (k + suc (length ss)) ≤ length (m .names) = r .entries in
           let n : length (d .text) ≡ length s = ap length text in
-          let is : EntryIs then k s = after-is m s d text fives roomy fits enough first many distance rows inside in
+          let is : EntryIs then k s = after-is m s d text whole roomy fits enough first many distance rows inside in
           let t : m .state .text + length (d .text) + 1 ≡ m .state .text + (length s + 1) = omega arith in
           let w : m .state .rows + d .count ≡ m .state .rows + rowsAdded k before s = ap (λ (x : ℕ). m .state .rows + x) count in
           let e : k + 1 - 1 ≡ k = omega arith in
-          let p : readOf src m ≡ outcome (answer.Kept k) (d .cur) then = q ∙ kept-back m s d text fives roomy fits enough first many distance src in
+          let p : readOf src m ≡ outcome (answer.Kept k) (d .cur) then = q ∙ kept-back m s d text whole roomy fits enough first many distance src in
           let h = rw (sym (judged (s ∷ ss) r) ∙ p) at (next-holds bytes dir cur (m .text) (m .names) (m .rows) (m .state) (opened (s ∷ ss) r) (r .counted)) in
           record {
             now = d .cur;
@@ -198,13 +209,13 @@ module _ (bytes dir cur : List ℕ) (m : Kept) (before : List ℕ) (directory : 
                   all = omega arith;
                   last = λ h. (good, subst (λ (i : ℕ). EntryIs then i s) (sym e) is);
                   good = goods;
-                  texts = omega (arith, text-room, after-texts m s d text fives roomy fits enough first many distance);
-                  entries = omega (arith, after-names m s d text fives roomy fits enough first many distance);
-                  rows = omega (arith, row-room, count, after-rows m s d text fives roomy fits enough first many distance);
+                  texts = omega (arith, text-room, after-texts m s d text whole roomy fits enough first many distance);
+                  entries = omega (arith, after-names m s d text whole roomy fits enough first many distance);
+                  rows = omega (arith, row-room, count, after-rows m s d text whole roomy fits enough first many distance);
                 };
-            stays = after-stays m s d text fives roomy fits enough first many distance;
+            stays = after-stays m s d text whole roomy fits enough first many distance;
             entry = is;
-            text = after-text m s d text fives roomy fits enough first many distance;
+            text = after-text m s d text whole roomy fits enough first many distance;
             counts = rw (t, w) refl;
           }
 
@@ -212,29 +223,29 @@ module _ (bytes dir cur : List ℕ) (m : Kept) (before : List ℕ) (directory : 
     dup-back : 1 ≤ k → anew k ≡ false → same before s ≡ true → ReadBack bytes dir cur m before s ss
     unfolding referencePuts headPuts headedOf dupOf entryBack
     dup-back h a q =
-        let l : Left bytes dir cur (put (spanOf 0 0) (5 ∷ []) ∷ put (spanOf 0 5) (fourBytes 1) ∷ putsFrom (k + 1) s ss) = puts _ (puts-dup k before s a q) in
+        let l : Left bytes dir cur (put (spanOf 0 typeStream) (dupNumber ∷ []) ∷ put (spanOf 0 dupStream) (fourBytes 1) ∷ putsFrom (k + 1) s ss) = puts _ (puts-dup k before s a q) in
         let is : before ≡ s = same-equal before s q in
         let was = r .last h in
         let entry : Entry = entryAt (m .names) (k - 1) in
-        let d : Draft = draft (part (m .text) (entry .start) (entry .start + entry .length)) [] 0 (headPast cur 5) in
+        let d : Draft = draft (part (m .text) (entry .start) (entry .start + entry .length)) [] 0 (headPast cur dupStream) in
         let text : d .text ≡ s = entry-text m (k - 1) before (was .1) ∙ is in
         let c : 0 ≡ rowsAdded k before s = sym (added-dup k before s a q) in
         let old : RowsOf (earlier (m .text) (m .rows) (entry .first) (entry .rows)) (m .state .text) s =
         subst (λ (x : List ℕ). RowsOf (earlier (m .text) (m .rows) (entry .first) (entry .rows)) (m .state .text) x) is (was .1 .rows) in
-        let f : 0 ≡ 5 * 0 = omega arith in
+        let f : 0 ≡ rowSize * 0 = omega arith in
         kept-read d text f c (entry .first) (entry .rows) 1
         (headed (head.Dup (record { 0 = 1 })) (dup-head bytes dir cur k 1 (omega arith) (putsFrom (k + 1) s ss) (omega arith) h l)
         ∙ pick-true _ _ (r .fits (k - 1) (omega arith)))
-        (head-past bytes dir cur 5 5 1 (omega arith) (omega arith) (omega arith) (putsFrom (k + 1) s ss) l)
+        (head-past bytes dir cur dupNumber dupStream 1 (omega arith) (omega arith) (omega arith) (putsFrom (k + 1) s ss) l)
         (rows-old m s d text f (roomy d text f c (entry .first) (entry .rows) 1) (fits d text f c (entry .first) (entry .rows) 1)
         (enough d text f c (entry .first) (entry .rows) 1) (entry .first) (entry .rows) 1 (entry .first) (entry .rows) old (was .1 .inside))
         (omega (arith, was .1 .inside))
 
     -- DIFF, leaning on the rows of an earlier name that is x
     module _ (distance : ℕ) (e : Earlier) (x : List ℕ) (allowed : allAllowed x ≡ true) (o : RowsOf e (m .state .text) x) (added : rowsAdded k before s ≡ tokensIn s)
-        (q : readOf src m ≡ diffOf src m distance e) (l : Left bytes dir (headPast cur 6) (tokenPuts s 1 (choicesOf x s) ++ putsFrom (k + 1) s ss)) where
-      spelt : Spelt bytes dir s (m .state .text) 127 1 0 (draft [] [] 0 (headPast cur 6)) (putsFrom (k + 1) s ss) (nameOf src e (m .state .text) (headPast cur 6))
-      spelt = name-back bytes dir cur (headPast cur 6) e (m .state .text) x s (putsFrom (k + 1) s ss) allowed good o (head-same cur 6 (omega arith)) l
+        (q : readOf src m ≡ diffOf src m distance e) (l : Left bytes dir (headPast cur diffStream) (tokenPuts s 1 (choicesOf x s) ++ putsFrom (k + 1) s ss)) where
+      spelt : Spelt bytes dir s (m .state .text) 127 1 0 (draft [] [] 0 (headPast cur diffStream)) (putsFrom (k + 1) s ss) (nameOf src e (m .state .text) (headPast cur diffStream))
+      spelt = name-back bytes dir cur (headPast cur diffStream) e (m .state .text) x s (putsFrom (k + 1) s ss) allowed good o (head-same cur diffStream (omega arith)) l
 
       rows : spelt .draft .rows ≡ splitRows s (m .state .text)
       unfolding splitRows
@@ -248,7 +259,7 @@ module _ (bytes dir cur : List ℕ) (m : Kept) (before : List ℕ) (directory : 
       unfolding diffOf namedOf
       diff-back =
           let d : Draft = spelt .draft in
-          let f : length (d .rows) ≡ 5 * d .count = ap length rows ∙ length-split s (m .state .text) ∙ ap (λ (n : ℕ). 5 * n) (sym count) in
+          let f : length (d .rows) ≡ rowSize * d .count = ap length rows ∙ length-split s (m .state .text) ∙ ap (λ (n : ℕ). rowSize * n) (sym count) in
           let c : d .count ≡ rowsAdded k before s = count ∙ sym added in
           kept-read d (spelt .text) f c (m .state .rows) (d .count) distance
           (q ∙ ap (namedOf src m distance) (spelt .is)) (spelt .left)
@@ -259,23 +270,23 @@ module _ (bytes dir cur : List ℕ) (m : Kept) (before : List ℕ) (directory : 
     first-back : k ≡ 0 → anew k ≡ true → ReadBack bytes dir cur m before s ss
     unfolding referencePuts headPuts headedOf none
     first-back z a =
-        let l : Left bytes dir cur (put (spanOf 0 0) (6 ∷ []) ∷ put (spanOf 0 6) (fourBytes 0) ∷ (tokenPuts s 1 (choicesOf [] s) ++ putsFrom (k + 1) s ss)) =
+        let l : Left bytes dir cur (put (spanOf 0 typeStream) (diffNumber ∷ []) ∷ put (spanOf 0 diffStream) (fourBytes 0) ∷ (tokenPuts s 1 (choicesOf [] s) ++ putsFrom (k + 1) s ss)) =
         puts _ (puts-first k before s a) in
         diff-back 0 (none m) [] (every-none isAllowed) (rows-nothing (m .text) (m .rows) (m .state .text)) (added-first k before s a)
         (headed (head.Diff (record { 0 = 0 })) (first-head bytes dir cur k 0 (omega arith) (tokenPuts s 1 (choicesOf [] s) ++ putsFrom (k + 1) s ss) z refl l)
         ∙ pick-true _ _ (eq-eqb 0 0 refl))
-        (head-past bytes dir cur 6 6 0 (omega arith) (omega arith) (omega arith) (tokenPuts s 1 (choicesOf [] s) ++ putsFrom (k + 1) s ss) l)
+        (head-past bytes dir cur diffNumber diffStream 0 (omega arith) (omega arith) (omega arith) (tokenPuts s 1 (choicesOf [] s) ++ putsFrom (k + 1) s ss) l)
 
     later-back : 1 ≤ k → anew k ≡ false → same before s ≡ false → ReadBack bytes dir cur m before s ss
     unfolding referencePuts headPuts headedOf rowsOf entryBack
     later-back h a q =
-        let l : Left bytes dir cur (put (spanOf 0 0) (6 ∷ []) ∷ put (spanOf 0 6) (fourBytes 1) ∷ (tokenPuts s 1 (choicesOf before s) ++ putsFrom (k + 1) s ss)) =
+        let l : Left bytes dir cur (put (spanOf 0 typeStream) (diffNumber ∷ []) ∷ put (spanOf 0 diffStream) (fourBytes 1) ∷ (tokenPuts s 1 (choicesOf before s) ++ putsFrom (k + 1) s ss)) =
         puts _ (puts-diff k before s a q) in
         let was = r .last h in
         diff-back 1 (rowsOf m (entryBack m 1)) before (was .0 .allowed) (was .1 .rows) (added-diff k before s a q)
         (headed (head.Diff (record { 0 = 1 })) (later-head bytes dir cur k 1 (omega arith) (tokenPuts s 1 (choicesOf before s) ++ putsFrom (k + 1) s ss) (omega arith) h l)
         ∙ pick-false _ _ (ne-eqb 1 0 (λ (w : 1 ≡ 0). omega arith)) ∙ pick-true _ _ (r .fits (k - 1) (omega arith)))
-        (head-past bytes dir cur 6 6 1 (omega arith) (omega arith) (omega arith) (tokenPuts s 1 (choicesOf before s) ++ putsFrom (k + 1) s ss) l)
+        (head-past bytes dir cur diffNumber diffStream 1 (omega arith) (omega arith) (omega arith) (tokenPuts s 1 (choicesOf before s) ++ putsFrom (k + 1) s ss) l)
 
     -- the next name
     pub read-back : ReadBack bytes dir cur m before s ss

@@ -17,6 +17,7 @@ use Rattle.spans.specs.declared.NextFour.{NextFour}
 use Rattle.spans.specs.Spans.{cursor, fourBytes}
 use Rattle.block.specs.Block.{spanOf, cursorOf}
 use Rattle.block.proofs.Laws.{span-below, span-stream}
+use Rattle.block.specs.Streams.{stringStream, charStream, digits0Stream, dzlenStream, digitsStream, ddeltaStream, ddelta0Stream}
 use Rattle.tokens.specs.declared.Padded.{Padded}
 use Rattle.tokens.specs.declared.TokenType.{TokenType}
 use Rattle.tokens.specs.declared.TokenType.the-variants as type
@@ -24,15 +25,19 @@ use Rattle.tokens.specs.declared.Token.{Token}
 use Rattle.tokens.specs.declared.Token.the-variants as token
 use Rattle.tokens.specs.Tokens.{bytesOf, kindOf, numberOf, widthOf, lengthOf, rowOf}
 use Rattle.kept.specs.declared.Row.{Row}
-use Rattle.steps.specs.declared.Step.the-variants as step
-use Rattle.steps.specs.Source.{Source, source, Earlier, byteIn}
-use Rattle.steps.specs.Steps.{stringStep, charStep, digitsStep, paddedStep, widthStep, digits0Step, deltaStep, delta0Step, tokenOf, rowHere, hasKind, deltaAt, delta0At, valueStep}
-use Rattle.steps.proofs.Ways.{repeats-string, repeats-char, repeats-padded, repeats-digits}
-use Rattle.names.specs.Names.{past, valuePast}
+use Rattle.values.specs.declared.Step.the-variants as step
+use Rattle.sources.specs.Source.{Source, source, Earlier, byteIn}
+use Rattle.values.specs.Values.{stringStep, charStep, digitsStep, withWidth, paddedOf, paddedStep, digits0Step}
+use Rattle.sums.specs.Sums.{deltaStep, delta0Step}
+use Rattle.repeats.specs.Repeats.{tokenOf, rowHere, hasKind, deltaAt, delta0At}
+use Rattle.steps.specs.Steps.{valueStep}
+use Rattle.repeats.proofs.Ways.{repeats-string, repeats-char, repeats-padded, repeats-digits}
+use Rattle.moving.specs.Moves.{past, valuePast}
 use Rattle.laying.specs.Puts.{Put, put}
-use Rattle.splitting.specs.declared.Piece.{Piece}
-use Rattle.splitting.specs.declared.Piece.the-variants.{String, Char, Digits, Digits0}
-use Rattle.writing.specs.NamePuts.{pieceType, piecePuts}
+use Rattle.pieces.specs.declared.Piece.{Piece}
+use Rattle.pieces.specs.declared.Piece.the-variants.{String, Char, Digits, Digits0}
+use Rattle.tokenputs.specs.TokenPuts.{pieceType}
+use Rattle.valueputs.specs.ValuePuts.{piecePuts}
 use Rattle.roundtrip.specs.Rows.{pieceBytes, pieceKind, pieceNumber, pieceWidth, pieceRow}
 use Rattle.roundtrip.proofs.Eating.{Left, First, first, eat, first-other, past-other, eaten}
 use Rattle.roundtrip.proofs.Fronts.{byte-first, four-first, text-first, text-there}
@@ -100,8 +105,8 @@ module _ (bytes dir cur : List ℕ) (e : Earlier) (p : ℕ) (low : 1 ≤ p) (hig
       → Valued src e p now k type.String (piecePuts s p (String a z)) s (String a z)
   unfolding piecePuts valueStep stringStep valuePast eaten pick
   string-valued a z small l =
-      let f : First bytes dir cur (spanOf p 1) (part s a z ++ 0 ∷ []) = value 1 (part s a z ++ 0 ∷ []) rest (omega arith) (omega arith) l in
-      let at : ℕ = cursorOf cur (spanOf p 1) in
+      let f : First bytes dir cur (spanOf p stringStream) (part s a z ++ 0 ∷ []) = value 1 (part s a z ++ 0 ∷ []) rest (omega arith) (omega arith) l in
+      let at : ℕ = cursorOf cur (spanOf p stringStream) in
       record {
         token = token.String (record { kept = false; start = at; end = at + length (part s a z) });
         next = cursor (at + length (part s a z) + 1);
@@ -113,50 +118,50 @@ module _ (bytes dir cur : List ℕ) (e : Earlier) (p : ℕ) (low : 1 ≤ p) (hig
   char-valued : (b : ℕ) → Left bytes dir now (piecePuts s p (Char b) ++ rest) → Valued src e p now k type.Char (piecePuts s p (Char b)) s (Char b)
   unfolding piecePuts valueStep charStep valuePast eaten
   char-valued b l =
-      let f : First bytes dir cur (spanOf p 2) (b ∷ []) = value 2 (b ∷ []) rest (omega arith) (omega arith) l in
+      let f : First bytes dir cur (spanOf p charStream) (b ∷ []) = value 2 (b ∷ []) rest (omega arith) (omega arith) l in
       record {
         token = token.Char b;
-        next = cursor (cursorOf cur (spanOf p 2) + 1);
+        next = cursor (cursorOf cur (spanOf p charStream) + 1);
         gives = ap charStep (byte-first bytes dir cur p 2 b f);
         same = char-same bytes (e .text) s b;
-        moved = set-past 2 1 (cursorOf cur (spanOf p 2) + 1) (omega arith) (omega arith) refl;
+        moved = set-past 2 1 (cursorOf cur (spanOf p charStream) + 1) (omega arith) (omega arith) refl;
       }
 
   digits-valued : (n : ℕ) → n < 10 ^ 9 → Left bytes dir now (piecePuts s p (Digits n) ++ rest) → Valued src e p now k type.Digits (piecePuts s p (Digits n)) s (Digits n)
   unfolding piecePuts valueStep digitsStep valuePast eaten fourBytes
   digits-valued n h l =
-      let f : First bytes dir cur (spanOf p 7) (fourBytes n) = value 7 (fourBytes n) rest (omega arith) (omega arith) l in
+      let f : First bytes dir cur (spanOf p digitsStream) (fourBytes n) = value 7 (fourBytes n) rest (omega arith) (omega arith) l in
       record {
         token = token.Digits n;
-        next = cursor (cursorOf cur (spanOf p 7) + 4);
+        next = cursor (cursorOf cur (spanOf p digitsStream) + 4);
         gives = ap digitsStep (four-first bytes dir cur p 7 n (omega arith) f);
         same = digits-same bytes (e .text) s n;
-        moved = set-past 7 4 (cursorOf cur (spanOf p 7) + 4) (omega arith) (omega arith) refl;
+        moved = set-past 7 4 (cursorOf cur (spanOf p digitsStream) + 4) (omega arith) (omega arith) refl;
       }
 
   digits0-valued : (x : Padded) → Small s (Digits0 x) → Left bytes dir now (piecePuts s p (Digits0 x) ++ rest)
       → Valued src e p now k type.Digits0 (piecePuts s p (Digits0 x)) s (Digits0 x)
-  unfolding piecePuts valueStep digits0Step widthStep paddedStep valuePast eaten fourBytes
+  unfolding piecePuts valueStep paddedOf withWidth digits0Step paddedStep valuePast eaten fourBytes
   digits0-valued x small l =
       let n : ℕ = x .number in
       let w : ℕ = x .width in
-      let more : List Put = put (spanOf p 4) (w ∷ []) ∷ rest in
-      let f : First bytes dir cur (spanOf p 3) (fourBytes n) = value 3 (fourBytes n) more (omega arith) (omega arith) l in
-      let next : Left bytes dir (past now (spanOf p 3) 4) more = eat bytes dir now (spanOf p 3) (fourBytes n) more (below 3 (omega arith)) l in
-      let g : First bytes dir (past now (spanOf p 3) 4) (spanOf p 4) (w ∷ []) = first bytes dir (past now (spanOf p 3) 4) (spanOf p 4) (w ∷ []) rest (below 4 (omega arith)) next in
-      let o : First bytes dir now (spanOf p 4) (w ∷ []) =
-      first-other bytes dir now (spanOf p 3) 4 (spanOf p 4) (w ∷ []) (λ q. let z : 4 ≡ 3 = span-stream p 4 p 3 (omega arith) (omega arith) q in omega arith) g in
-      let h : First bytes dir cur (spanOf p 4) (w ∷ []) = before 4 (w ∷ []) (omega arith) (omega arith) o in
-      let c : Cursor = cursor (cursorOf cur (spanOf p 3) + 4) in
+      let more : List Put = put (spanOf p dzlenStream) (w ∷ []) ∷ rest in
+      let f : First bytes dir cur (spanOf p digits0Stream) (fourBytes n) = value 3 (fourBytes n) more (omega arith) (omega arith) l in
+      let next : Left bytes dir (past now (spanOf p digits0Stream) 4) more = eat bytes dir now (spanOf p digits0Stream) (fourBytes n) more (below 3 (omega arith)) l in
+      let g : First bytes dir (past now (spanOf p digits0Stream) 4) (spanOf p dzlenStream) (w ∷ []) = first bytes dir (past now (spanOf p digits0Stream) 4) (spanOf p dzlenStream) (w ∷ []) rest (below 4 (omega arith)) next in
+      let o : First bytes dir now (spanOf p dzlenStream) (w ∷ []) =
+      first-other bytes dir now (spanOf p digits0Stream) 4 (spanOf p dzlenStream) (w ∷ []) (λ q. let z : 4 ≡ 3 = span-stream p 4 p 3 (omega arith) (omega arith) q in omega arith) g in
+      let h : First bytes dir cur (spanOf p dzlenStream) (w ∷ []) = before 4 (w ∷ []) (omega arith) (omega arith) o in
+      let c : Cursor = cursor (cursorOf cur (spanOf p digits0Stream) + 4) in
       record {
         token = token.Digits0 x;
         next = c;
         gives =
-            ap (λ (y : NextFour). digits0Step y (byteIn src p 4)) (four-first bytes dir cur p 3 n (omega (arith, small .0)) f)
-            ∙ ap (λ (y : NextByte). widthStep n c y) (byte-first bytes dir cur p 4 w h)
+            ap (λ (y : NextFour). digits0Step (paddedOf y (byteIn src p dzlenStream))) (four-first bytes dir cur p 3 n (omega (arith, small .0)) f)
+            ∙ ap (λ (y : NextByte). digits0Step (withWidth n c y)) (byte-first bytes dir cur p 4 w h)
             ∙ pick-true _ _ (small .1 .0);
         same = digits0-same bytes (e .text) s x;
-        moved = ap (λ (m : List ℕ). past m (spanOf p 4) 1) (set-past 3 4 (cursorOf cur (spanOf p 3) + 4) (omega arith) (omega arith) refl);
+        moved = ap (λ (m : List ℕ). past m (spanOf p dzlenStream) 1) (set-past 3 4 (cursorOf cur (spanOf p digits0Stream) + 4) (omega arith) (omega arith) refl);
       }
 
   pub piece-valued : (x : Piece) → Small s x → Left bytes dir now (piecePuts s p x ++ rest) → Valued src e p now k (pieceType x) (piecePuts s p x) s x
@@ -166,36 +171,36 @@ module _ (bytes dir cur : List ℕ) (e : Earlier) (p : ℕ) (low : 1 ≤ p) (hig
   piece-valued (Digits n) small l = digits-valued n small l
   piece-valued (Digits0 x) small l = digits0-valued x small l
 
-  pub delta-valued : (d : ℕ) → hasKind e p 7 ≡ true → rowHere e p .number + d < 10 ^ 9 → Left bytes dir now (put (spanOf p 8) (d ∷ []) ∷ rest)
-      → Valued src e p now k type.Delta (put (spanOf p 8) (d ∷ []) ∷ []) s (Digits (rowHere e p .number + d))
+  pub delta-valued : (d : ℕ) → hasKind e p 7 ≡ true → rowHere e p .number + d < 10 ^ 9 → Left bytes dir now (put (spanOf p ddeltaStream) (d ∷ []) ∷ rest)
+      → Valued src e p now k type.Delta (put (spanOf p ddeltaStream) (d ∷ []) ∷ []) s (Digits (rowHere e p .number + d))
   unfolding valueStep deltaAt deltaStep valuePast eaten
   delta-valued d has h l =
-      let f : First bytes dir cur (spanOf p 8) (d ∷ []) = value 8 (d ∷ []) rest (omega arith) (omega arith) l in
+      let f : First bytes dir cur (spanOf p ddeltaStream) (d ∷ []) = value 8 (d ∷ []) rest (omega arith) (omega arith) l in
       record {
         token = token.Digits (rowHere e p .number + d);
-        next = cursor (cursorOf cur (spanOf p 8) + 1);
+        next = cursor (cursorOf cur (spanOf p ddeltaStream) + 1);
         gives =
             pick-true _ _ has ∙ ap (deltaStep (rowHere e p .number)) (byte-first bytes dir cur p 8 d f)
             ∙ pick-true _ _ (lt-ltb (rowHere e p .number + d) (2 ^ 32) (omega arith));
         same = digits-same bytes (e .text) s (rowHere e p .number + d);
-        moved = set-past 8 1 (cursorOf cur (spanOf p 8) + 1) (omega arith) (omega arith) refl;
+        moved = set-past 8 1 (cursorOf cur (spanOf p ddeltaStream) + 1) (omega arith) (omega arith) refl;
       }
 
   pub delta0-valued : (d : ℕ) → hasKind e p 4 ≡ true → Small s (Digits0 (record { number = rowHere e p .number + d; width = rowHere e p .width }))
-      → Left bytes dir now (put (spanOf p 9) (d ∷ []) ∷ rest)
-      → Valued src e p now k type.Delta0 (put (spanOf p 9) (d ∷ []) ∷ []) s (Digits0 (record { number = rowHere e p .number + d; width = rowHere e p .width }))
+      → Left bytes dir now (put (spanOf p ddelta0Stream) (d ∷ []) ∷ rest)
+      → Valued src e p now k type.Delta0 (put (spanOf p ddelta0Stream) (d ∷ []) ∷ []) s (Digits0 (record { number = rowHere e p .number + d; width = rowHere e p .width }))
   unfolding valueStep delta0At delta0Step paddedStep valuePast eaten
   delta0-valued d has small l =
-      let f : First bytes dir cur (spanOf p 9) (d ∷ []) = value 9 (d ∷ []) rest (omega arith) (omega arith) l in
+      let f : First bytes dir cur (spanOf p ddelta0Stream) (d ∷ []) = value 9 (d ∷ []) rest (omega arith) (omega arith) l in
       record {
         token = token.Digits0 (record { number = rowHere e p .number + d; width = rowHere e p .width });
-        next = cursor (cursorOf cur (spanOf p 9) + 1);
+        next = cursor (cursorOf cur (spanOf p ddelta0Stream) + 1);
         gives =
             pick-true _ _ has ∙ ap (delta0Step (rowHere e p .number) (rowHere e p .width)) (byte-first bytes dir cur p 9 d f)
             ∙ pick-true _ _ (lt-ltb (rowHere e p .number + d) (2 ^ 32) (omega (arith, small .0)))
             ∙ pick-true _ _ (small .1 .0);
         same = digits0-same bytes (e .text) s (record { number = rowHere e p .number + d; width = rowHere e p .width });
-        moved = set-past 9 1 (cursorOf cur (spanOf p 9) + 1) (omega arith) (omega arith) refl;
+        moved = set-past 9 1 (cursorOf cur (spanOf p ddelta0Stream) + 1) (omega arith) (omega arith) refl;
       }
 
 -- a row that is that of token x gives it again

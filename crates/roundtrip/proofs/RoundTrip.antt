@@ -20,22 +20,24 @@ use Rattle.block.specs.declared.Refusal.the-variants.{Plain, At}
 use Rattle.block.specs.Block.{Opening, opening, openOf, sound, starts, state}
 use Rattle.block.proofs.Laws.{sound-of, opens-fresh}
 use Rattle.kept.proofs.Laws.{fresh-counted}
-use Rattle.kept.specs.Tables.{Kept, keeping}
-use Rattle.steps.specs.Source.{source}
-use Rattle.reading.specs.declared.Answer.the-variants as answer
-use Rattle.reading.specs.Reads.{Outcome, outcome}
-use Rattle.reading.specs.Blocks.{readsFrom, openedOf, blockOf}
+use Rattle.kept.specs.Tables.{entrySize, rowSize, Kept, keeping}
+use Rattle.sources.specs.Source.{source}
+use Rattle.entries.specs.declared.Answer.the-variants as answer
+use Rattle.entries.specs.Outcomes.{Outcome, outcome}
+use Rattle.reads.specs.Reads.{readsFrom}
+use Rattle.reading.specs.Blocks.{openedOf, blockOf}
 use Rattle.laying.specs.Puts.{directoryOf, totalOf, bytesOf}
-use Rattle.writing.specs.declared.Judged.{Judged}
-use Rattle.writing.specs.declared.Judged.the-variants.{Fine, Bad}
+use Rattle.inputs.specs.declared.Judged.{Judged}
+use Rattle.inputs.specs.declared.Judged.the-variants.{Fine, Bad}
 use Rattle.writing.specs.declared.WriteAnswer.{WriteAnswer}
 use Rattle.writing.specs.declared.WriteAnswer.the-variants.{Written, Refused}
-use Rattle.writing.specs.Names.{namesAfter, namesOf, ended, judgedFrom}
-use Rattle.writing.specs.NamePuts.{putsOf}
+use Rattle.inputs.specs.Inputs.{namesAfter, namesOf, ended, judgedFrom}
+use Rattle.nameputs.specs.NamePuts.{putsOf}
 use Rattle.writing.specs.Writes.{Writing, writing, countable, laidOf, judgedOf, writeOf}
 use Rattle.roundtrip.specs.Room.{listed, textWanted, rowsFor, rowsWanted}
 use Rattle.roundtrip.specs.Back.{Roomy, NameIs, RowsAre, Back, InputBack, readTimes, OneByOne}
 use Rattle.roundtrip.specs.Layout.{LaidOut}
+use Rattle.roundtrip.specs.Accepted.{Accepted}
 use Rattle.roundtrip.specs.Demand.{ReadsBack, ReadsBackAmply, ReadsOneByOne, Opens, LaysOut, Nothing}
 use Rattle.roundtrip.proofs.Reading.{Reached}
 use Rattle.roundtrip.proofs.Blocks.{names-at, Whole, reads-back, calls-back, calls-done}
@@ -129,22 +131,13 @@ module _ (names : List (List ℕ)) (fine : judgedFrom 0 names ≡ Fine) (few : l
             ∙ calls-done all dir d w names answer.Done (starts dir) m [] (begun text table rows r);
       }
 
--- room that always suffices: 255 bytes of text, five numbers and 127 rows a name
-pub roomy-most : (names : List (List ℕ)) (m : Kept) → judgedFrom 0 names ≡ Fine → 255 * length names ≤ length (m .text) → 5 * length names ≤ length (m .names)
-    → 635 * length names ≤ length (m .rows) → Roomy names m
+-- room that always suffices: 255 bytes of text, an entry and 127 rows a name
+pub roomy-most : (names : List (List ℕ)) (m : Kept) → judgedFrom 0 names ≡ Fine → 255 * length names ≤ length (m .text) → entrySize * length names ≤ length (m .names)
+    → 127 * rowSize * length names ≤ length (m .rows) → Roomy names m
 roomy-most names m fine t e r =
     record { text = omega (arith, text-most names (all-good names 0 fine)); entries = e; rows = omega (arith, rows-most names) }
 
 -- What an accepted writing tells
-
-pub record Accepted (input dir bytes : List ℕ) (n total : ℕ) : Type 0 where
-  pub ends : ended input ≡ true
-  pub few : length (namesOf input) ≤ 65536
-  pub fine : judgedFrom 0 (namesOf input) ≡ Fine
-  pub room : totalOf (putsOf (namesOf input)) ≤ length bytes
-  pub names : n ≡ length (namesOf input)
-  pub sum : total ≡ totalOf (putsOf (namesOf input))
-  pub is : writeOf input dir bytes ≡ writing (Written n total) (directoryOf (putsOf (namesOf input))) (bytesOf (putsOf (namesOf input)) bytes)
 
 -- a refusal is no accepted writing
 refused-not : {n total : ℕ} (w : Writing) {dir bytes : List ℕ} (r : Refusal) → w ≡ writing (Refused r) dir bytes → w .answer ≡ Written n total → ⊥
@@ -215,8 +208,8 @@ module _ (input dir bytes : List ℕ) (n total : ℕ) (e : writeOf input dir byt
         used = b .used ∙ sym (listed-length names) ∙ ap length (listed-back input (accepted .ends));
       })
 
-  -- 255 bytes of text, five numbers and 127 rows a name are always enough
-  pub written-back-most : (cur : List ℕ) (m : Kept) → length cur ≡ 1290 → 255 * n ≤ length (m .text) → 5 * n ≤ length (m .names) → 635 * n ≤ length (m .rows)
+  -- 255 bytes of text, an entry and 127 rows a name are always enough
+  pub written-back-most : (cur : List ℕ) (m : Kept) → length cur ≡ 1290 → 255 * n ≤ length (m .text) → entrySize * n ≤ length (m .names) → 127 * rowSize * n ≤ length (m .rows)
       → InputBack input (blockOf (source (writeOf input dir bytes .bytes) (writeOf input dir bytes .directory) cur) m n)
   written-back-most cur m t a b c =
       let q : n ≡ length names = accepted .names in

@@ -14,7 +14,7 @@ use Rattle.block.proofs.Laws.{starts-length, starts-cursor}
 use Rattle.laying.specs.Puts.{Put, contentOf, joined, startIn, tableOf, directoryOf, totalOf, bytesOf}
 use Rattle.laying.proofs.Joined.{joined-none, joined-more, joined-at, length-joined-suc, length-joined-at, length-joined-none}
 use Rattle.laying.proofs.Tables.{length-table, end-table}
-use Rattle.writing.specs.NamePuts.{putsFrom, putsOf}
+use Rattle.nameputs.specs.NamePuts.{putsFrom, putsOf}
 use Rattle.roundtrip.specs.Layout.{LaidOut}
 use Rattle.roundtrip.proofs.Eating.{Left, content-none}
 

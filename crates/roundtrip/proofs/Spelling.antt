@@ -21,19 +21,22 @@ use Rattle.tokens.specs.declared.Token.{Token}
 use Rattle.tokens.specs.Tokens.{bytesOf}
 use Rattle.kept.specs.declared.Row.{Row}
 use Rattle.kept.proofs.Frame.{row-holds}
-use Rattle.steps.specs.declared.Step.{Step}
-use Rattle.steps.specs.declared.Step.the-variants as step
-use Rattle.steps.specs.Source.{Source, source, Earlier}
-use Rattle.steps.specs.Steps.{hasRow, rowHere, stepAt}
+use Rattle.kept.specs.Tables.{rowSize}
+use Rattle.values.specs.declared.Step.{Step}
+use Rattle.values.specs.declared.Step.the-variants as step
+use Rattle.sources.specs.Source.{Source, source, Earlier}
+use Rattle.repeats.specs.Repeats.{hasRow, rowHere}
+use Rattle.steps.specs.Steps.{stepAt}
 use Rattle.steps.proofs.Frame.{step-cursors, byte-in-same}
 use Rattle.names.specs.Names.{Draft, draft, Named, named, grown, ended, printable, onward, nameFrom, nameOf}
 use Rattle.laying.specs.Puts.{Put}
-use Rattle.splitting.specs.declared.Choice.{Choice}
-use Rattle.splitting.specs.declared.Choice.the-variants.{End}
-use Rattle.splitting.specs.Split.{cutAt, pieceAt}
-use Rattle.splitting.specs.Choices.{choiceAt, choicesFrom, choicesOf}
+use Rattle.choices.specs.declared.Choice.{Choice}
+use Rattle.choices.specs.declared.Choice.the-variants.{End}
+use Rattle.splitting.specs.Split.{cutAt}
+use Rattle.pieces.specs.Pieces.{pieceAt}
+use Rattle.choices.specs.Choices.{choiceAt, choicesFrom, choicesOf}
 use Rattle.splitting.proofs.Runs.{cut-range, cut-out, cut-before}
-use Rattle.writing.specs.NamePuts.{choicePuts, tokenPuts}
+use Rattle.tokenputs.specs.TokenPuts.{choicePuts, tokenPuts}
 use Rattle.roundtrip.specs.Rows.{pieceBytes, pieceKind, pieceNumber, pieceWidth, pieceRow, rowsFrom, countFrom, splitRows, tokensIn}
 use Rattle.roundtrip.proofs.Eating.{Left, eaten, left-eaten, eaten-later}
 use Rattle.roundtrip.proofs.Pieces.{piece-cut, rows-more, rows-out, count-more, count-out, count-most, length-row, length-rows}
@@ -48,19 +51,23 @@ pub record Good (s : List ℕ) : Type 0 where
 
 -- the rows of an earlier name are those of r's split, r's text standing at `origin`: from position p on, where a token of r begins at b
 pub record RowsAt (e : Earlier) (origin : ℕ) (r : List ℕ) (f p b : ℕ) : Type 0 where
-  pub rows : Holds (e .rows) (5 * (e .first + (p - 1))) (rowsFrom r origin f p b)
+  pub rows : Holds (e .rows) (rowSize * (e .first + (p - 1))) (rowsFrom r origin f p b)
   pub many : b < length r → e .count ≡ p - 1 + countFrom r f p b
 
 module _ (e : Earlier) (origin : ℕ) (r : List ℕ) (allowed : allAllowed r ≡ true) (text : Holds (e .text) origin r) (f p b : ℕ) (low : 1 ≤ p) (at : RowsAt e origin r (suc f) p b) where
-  both-rows : b < length r → Holds (e .rows) (5 * (e .first + (p - 1))) (pieceRow r (pieceAt r p b) (origin + b) ++ rowsFrom r origin f (p + 1) (cutAt r p b))
-  both-rows h = subst (λ (l : List ℕ). Holds (e .rows) (5 * (e .first + (p - 1))) l) (rows-more r f p b origin h) (at .rows)
+  both-rows : b < length r → Holds (e .rows) (rowSize * (e .first + (p - 1))) (pieceRow r (pieceAt r p b) (origin + b) ++ rowsFrom r origin f (p + 1) (cutAt r p b))
+  both-rows h = subst (λ (l : List ℕ). Holds (e .rows) (rowSize * (e .first + (p - 1))) l) (rows-more r f p b origin h) (at .rows)
 
-  row-there : b < length r → let x = pieceAt r p b in
-      rowHere e p ≡ record { kind = pieceKind x; number = pieceNumber x; width = pieceWidth x; start = origin + b; length = length (pieceBytes r x) }
+  abbrev here : Row
+  here =
+      let x = pieceAt r p b in
+      record { kind = pieceKind x; number = pieceNumber x; width = pieceWidth x; start = origin + b; length = length (pieceBytes r x) }
+
+  row-there : b < length r → rowHere e p ≡ here
   unfolding rowHere pieceRow
   row-there h =
-      row-holds (e .rows) (e .first + (p - 1)) _ _ _ _ _
-      (holds-left (e .rows) (5 * (e .first + (p - 1))) (pieceRow r (pieceAt r p b) (origin + b)) (rowsFrom r origin f (p + 1) (cutAt r p b)) (both-rows h))
+      row-holds (e .rows) (e .first + (p - 1)) here
+      (holds-left (e .rows) (rowSize * (e .first + (p - 1))) (pieceRow r (pieceAt r p b) (origin + b)) (rowsFrom r origin f (p + 1) (cutAt r p b)) (both-rows h))
 
   row-start : b < length r → rowHere e p .start ≡ origin + b
   row-start h = ap (λ (x : Row). x .start) (row-there h)
@@ -85,9 +92,9 @@ module _ (e : Earlier) (origin : ℕ) (r : List ℕ) (allowed : allAllowed r ≡
   next-in h =
       let i : ℕ = e .first + (p - 1) in
       let row : List ℕ = pieceRow r (pieceAt r p b) (origin + b) in
-      let n : 5 * i + length row ≡ 5 * (e .first + (p + 1 - 1)) = omega (arith, length-row r (pieceAt r p b) (origin + b)) in
+      let n : rowSize * i + length row ≡ rowSize * (e .first + (p + 1 - 1)) = omega (arith, length-row r (pieceAt r p b) (origin + b)) in
       record {
-        rows = subst (λ (k : ℕ). Holds (e .rows) k (rowsFrom r origin f (p + 1) (cutAt r p b))) n (holds-right (e .rows) (5 * i) row (rowsFrom r origin f (p + 1) (cutAt r p b)) (both-rows h));
+        rows = subst (λ (k : ℕ). Holds (e .rows) k (rowsFrom r origin f (p + 1) (cutAt r p b))) n (holds-right (e .rows) (rowSize * i) row (rowsFrom r origin f (p + 1) (cutAt r p b)) (both-rows h));
         many = λ g. omega (arith, at .many h, count-more r f p b h);
       }
 
@@ -282,13 +289,13 @@ pub record RowsOf (e : Earlier) (used : ℕ) (r : List ℕ) : Type 0 where
   pub origin : ℕ
   pub text : Holds (e .text) origin r
   pub below : origin + length r ≤ used
-  pub rows : Holds (e .rows) (5 * e .first) (splitRows r origin)
+  pub rows : Holds (e .rows) (rowSize * e .first) (splitRows r origin)
   pub many : e .count ≡ tokensIn r
 
 pub rows-at : (e : Earlier) (used : ℕ) (r : List ℕ) (o : RowsOf e used r) → RowsAt e (o .origin) r 127 1 0
 unfolding splitRows tokensIn
 rows-at e used r o =
-    let n : 5 * e .first ≡ 5 * (e .first + (1 - 1)) = omega arith in
+    let n : rowSize * e .first ≡ rowSize * (e .first + (1 - 1)) = omega arith in
     record { rows = subst (λ (k : ℕ). Holds (e .rows) k (splitRows r (o .origin))) n (o .rows); many = λ h. omega (arith, o .many) }
 
 -- a name read back, after an earlier one that is r
@@ -304,6 +311,6 @@ pub tokens-most : (r : List ℕ) → tokensIn r ≤ 127
 unfolding tokensIn
 tokens-most r = count-most r 127 1 0
 
-pub length-split : (r : List ℕ) (at : ℕ) → length (splitRows r at) ≡ 5 * tokensIn r
+pub length-split : (r : List ℕ) (at : ℕ) → length (splitRows r at) ≡ rowSize * tokensIn r
 unfolding splitRows tokensIn
 length-split r at = length-rows r at 127 1 0

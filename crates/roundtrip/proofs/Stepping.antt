@@ -10,22 +10,28 @@ use Rattle.spans.specs.declared.NextByte.the-variants as byte
 use Rattle.spans.specs.Spans.{cursor}
 use Rattle.block.specs.Block.{spanOf, cursorOf}
 use Rattle.block.proofs.Laws.{span-below}
+use Rattle.block.specs.Streams.{typeStream, ddeltaStream, ddelta0Stream}
 use Rattle.tokens.specs.declared.TokenType.{TokenType}
 use Rattle.tokens.specs.declared.TokenType.the-variants as type
 use Rattle.tokens.specs.declared.Token.{Token}
 use Rattle.tokens.proofs.Laws.{type-back}
-use Rattle.steps.specs.declared.Step.the-variants as step
-use Rattle.steps.specs.Source.{source, Earlier, byteIn}
-use Rattle.steps.specs.Steps.{rowHere, matchAt, valueStep, barred, stepAt}
-use Rattle.steps.proofs.Forward.{unbarred-before, unbarred-end, step-typed}
-use Rattle.names.specs.Names.{past, typeIn, valuePast}
+use Rattle.values.specs.declared.Step.the-variants as step
+use Rattle.sources.specs.Source.{source, Earlier, byteIn}
+use Rattle.repeats.specs.Repeats.{rowHere, matchAt}
+use Rattle.steps.specs.Steps.{valueStep, stepAt}
+use Rattle.bars.specs.Bars.{barred}
+use Rattle.bars.proofs.Laws.{unbarred-before, unbarred-end}
+use Rattle.steps.proofs.Forward.{step-typed}
+use Rattle.moving.specs.Moves.{past, valuePast}
+use Rattle.names.specs.Names.{typeIn}
 use Rattle.laying.specs.Puts.{Put, put}
-use Rattle.splitting.specs.declared.Piece.{Piece}
-use Rattle.splitting.specs.declared.Piece.the-variants.{String, Char, Digits, Digits0}
-use Rattle.splitting.specs.declared.Choice.{Choice}
-use Rattle.splitting.specs.declared.Choice.the-variants.{Itself, Delta, Delta0, Match, End}
+use Rattle.pieces.specs.declared.Piece.{Piece}
+use Rattle.pieces.specs.declared.Piece.the-variants.{String, Char, Digits, Digits0}
+use Rattle.choices.specs.declared.Choice.{Choice}
+use Rattle.choices.specs.declared.Choice.the-variants.{Itself, Delta, Delta0, Match, End}
 use Rattle.tokens.specs.Types.{typeNumber}
-use Rattle.writing.specs.NamePuts.{pieceType, choiceType, piecePuts, valuePuts, choicePuts}
+use Rattle.tokenputs.specs.TokenPuts.{pieceType, choiceType, choicePuts}
+use Rattle.valueputs.specs.ValuePuts.{piecePuts, valuePuts}
 use Rattle.roundtrip.proofs.Eating.{Left, first, eat, eaten, Between}
 use Rattle.roundtrip.proofs.Fronts.{byte-first}
 use Rattle.roundtrip.proofs.Pieces.{Small}
@@ -60,10 +66,10 @@ module _ (bytes dir cur : List ℕ) (e : Earlier) (p : ℕ) (low : 1 ≤ p) (hig
       subst (λ (y : Piece). Valued (source bytes dir cur) e p (past cur (spanOf p 0) 1) k (pieceType t) (piecePuts s p t) s y) right
       (piece-valued bytes dir cur e p low high s rest k t (subst (Small s) (sym right) small) l)
   choice-valued (Delta d) x small right l =
-      subst (λ (y : Piece). Valued (source bytes dir cur) e p (past cur (spanOf p 0) 1) k type.Delta (put (spanOf p 8) (d ∷ []) ∷ []) s y) (right .1)
+      subst (λ (y : Piece). Valued (source bytes dir cur) e p (past cur (spanOf p typeStream) 1) k type.Delta (put (spanOf p ddeltaStream) (d ∷ []) ∷ []) s y) (right .1)
       (delta-valued bytes dir cur e p low high s rest k d (right .0) (subst (Small s) (sym (right .1)) small) l)
   choice-valued (Delta0 d) x small right l =
-      subst (λ (y : Piece). Valued (source bytes dir cur) e p (past cur (spanOf p 0) 1) k type.Delta0 (put (spanOf p 9) (d ∷ []) ∷ []) s y) (right .1)
+      subst (λ (y : Piece). Valued (source bytes dir cur) e p (past cur (spanOf p typeStream) 1) k type.Delta0 (put (spanOf p ddelta0Stream) (d ∷ []) ∷ []) s y) (right .1)
       (delta0-valued bytes dir cur e p low high s rest k d (right .0) (subst (Small s) (sym (right .1)) small) l)
   choice-valued Match x small right l =
       let r = repeated bytes (e .text) (rowHere e p) s x (right .1) in

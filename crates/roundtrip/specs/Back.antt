@@ -4,19 +4,20 @@ use mathlib.Core.Path.{_≡_}
 use mathlib.Core.List.{List, []}
 use lib.ListN.{length, getD}
 use Rattle.base.specs.Memory.{part}
-use Rattle.kept.specs.Tables.{Kept, entryAt}
-use Rattle.reading.specs.declared.Answer.the-variants as answer
-use Rattle.steps.specs.Source.{source}
-use Rattle.reading.specs.Reads.{Outcome, readOf}
-use Rattle.writing.specs.Names.{namesOf}
+use Rattle.kept.specs.Tables.{entrySize, rowSize, Kept, entryAt}
+use Rattle.entries.specs.declared.Answer.the-variants as answer
+use Rattle.sources.specs.Source.{source}
+use Rattle.entries.specs.Outcomes.{Outcome}
+use Rattle.reads.specs.Reads.{readOf}
+use Rattle.inputs.specs.Inputs.{namesOf}
 use Rattle.roundtrip.specs.Rows.{splitRows, tokensIn}
 use Rattle.roundtrip.specs.Room.{listed, textWanted, rowsWanted}
 
--- there is room for names: their text with the byte 10 of each, five numbers a name, and five for each row that they add
+-- there is room for names: their text with the byte 10 of each, an entry a name, and a row for each that they add
 pub record Roomy (names : List (List ℕ)) (m : Kept) : Type 0 where
   pub text : textWanted names ≤ length (m .text)
-  pub entries : 5 * length names ≤ length (m .names)
-  pub rows : 5 * rowsWanted names ≤ length (m .rows)
+  pub entries : entrySize * length names ≤ length (m .names)
+  pub rows : rowSize * rowsWanted names ≤ length (m .rows)
 
 -- kept name i is s: its entry's text is s, no more and no less
 pub record NameIs (m : Kept) (i : ℕ) (s : List ℕ) : Type 0 where
@@ -28,7 +29,7 @@ pub record RowsAre (m : Kept) (i : ℕ) (s : List ℕ) : Type 0 where
   pub many : entryAt (m .names) i .rows ≡ tokensIn s
   pub origin : ℕ
   pub text : part (m .text) origin (origin + length s) ≡ s
-  pub rows : part (m .rows) (5 * entryAt (m .names) i .first) (5 * (entryAt (m .names) i .first + entryAt (m .names) i .rows)) ≡ splitRows s origin
+  pub rows : part (m .rows) (rowSize * entryAt (m .names) i .first) (rowSize * (entryAt (m .names) i .first + entryAt (m .names) i .rows)) ≡ splitRows s origin
 
 -- a whole-block read that is done, has kept these names in order and no others; its used text is all of them, each with its byte 10
 pub record Back (names : List (List ℕ)) (o : Outcome) : Type 0 where

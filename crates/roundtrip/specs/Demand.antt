@@ -5,15 +5,15 @@ use mathlib.Core.List.{List, []}
 use lib.ListN.{length}
 use Rattle.block.specs.declared.Opened.the-variants as opened
 use Rattle.block.specs.Block.{state, starts, opening, openOf}
-use Rattle.kept.specs.Tables.{Kept, keeping}
-use Rattle.steps.specs.Source.{source}
-use Rattle.reading.specs.declared.Answer.the-variants as answer
-use Rattle.reading.specs.Reads.{outcome}
+use Rattle.kept.specs.Tables.{entrySize, rowSize, Kept, keeping}
+use Rattle.sources.specs.Source.{source}
+use Rattle.entries.specs.declared.Answer.the-variants as answer
+use Rattle.entries.specs.Outcomes.{outcome}
 use Rattle.reading.specs.Blocks.{blockOf}
 use Rattle.writing.specs.declared.WriteAnswer.the-variants.{Written}
-use Rattle.writing.specs.Names.{namesOf}
+use Rattle.inputs.specs.Inputs.{namesOf}
 use Rattle.writing.specs.Writes.{writeOf}
-use Rattle.writing.specs.NamePuts.{putsOf}
+use Rattle.nameputs.specs.NamePuts.{putsOf}
 use Rattle.roundtrip.specs.Layout.{LaidOut}
 use Rattle.roundtrip.specs.Back.{Roomy, InputBack, OneByOne}
 
@@ -25,11 +25,11 @@ ReadsBack =
     → (cur : List ℕ) (m : Kept) → length cur ≡ 1290 → Roomy (namesOf input) m
     → InputBack input (blockOf (source (writeOf input dir bytes .bytes) (writeOf input dir bytes .directory) cur) m n)
 
--- 255 bytes of text, five numbers and 127 rows for each name are always room enough
+-- 255 bytes of text, an entry and 127 rows for each name are always room enough
 abbrev pub ReadsBackAmply : Type 0
 ReadsBackAmply =
     (input dir bytes : List ℕ) (n total : ℕ) → writeOf input dir bytes .answer ≡ Written n total
-    → (cur : List ℕ) (m : Kept) → length cur ≡ 1290 → 255 * n ≤ length (m .text) → 5 * n ≤ length (m .names) → 635 * n ≤ length (m .rows)
+    → (cur : List ℕ) (m : Kept) → length cur ≡ 1290 → 255 * n ≤ length (m .text) → entrySize * n ≤ length (m .names) → 127 * rowSize * n ≤ length (m .rows)
     → InputBack input (blockOf (source (writeOf input dir bytes .bytes) (writeOf input dir bytes .directory) cur) m n)
 
 -- and so does reading one name a call, from the state and the cursors that opening leaves

@@ -4,7 +4,7 @@ use mathlib.Core.List.{List, [], _∷_, _++_}
 use lib.ListN.{length}
 use Rattle.base.specs.Choice.{pick}
 use Rattle.base.specs.Same.{same}
-use Rattle.splitting.specs.Choices.{anew}
+use Rattle.references.specs.References.{anew}
 use Rattle.roundtrip.specs.Rows.{tokensIn}
 
 -- each name with its byte 10

@@ -1,4 +1,4 @@
--- The rows of a name's own split: what each of its tokens prints, and the five numbers of its row where the name's text stands at a place.
+-- The rows of a name's own split: what each of its tokens prints, and its row where the name's text stands at a place.
 use Prim.Native.Nat.{ℕ, zero, suc, _+_}
 use mathlib.Core.List.{List, [], _∷_, _++_}
 use lib.Dec.{ltb}
@@ -6,9 +6,11 @@ use lib.ListN.{length}
 use Rattle.base.specs.Choice.{pick}
 use Rattle.base.specs.Memory.{part}
 use Rattle.digits.specs.Digits.{printed, padded}
-use Rattle.splitting.specs.declared.Piece.{Piece}
-use Rattle.splitting.specs.declared.Piece.the-variants.{String, Char, Digits, Digits0}
-use Rattle.splitting.specs.Split.{cutAt, pieceAt}
+use Rattle.kept.specs.Tables.{rowNumbers}
+use Rattle.pieces.specs.declared.Piece.{Piece}
+use Rattle.pieces.specs.declared.Piece.the-variants.{String, Char, Digits, Digits0}
+use Rattle.splitting.specs.Split.{cutAt}
+use Rattle.pieces.specs.Pieces.{pieceAt}
 
 -- the printed bytes of a token of s
 unfoldable pub pieceBytes : List ℕ → Piece → List ℕ
@@ -35,9 +37,9 @@ pieceWidth (Char b) = 0
 pieceWidth (Digits n) = 0
 pieceWidth (Digits0 x) = x .width
 
--- kind, number, width, text start, text length
+-- the numbers of its row
 unfoldable pub pieceRow : List ℕ → Piece → ℕ → List ℕ
-pieceRow s x at = pieceKind x ∷ pieceNumber x ∷ pieceWidth x ∷ at ∷ length (pieceBytes s x) ∷ []
+pieceRow s x at = rowNumbers (record { kind = pieceKind x; number = pieceNumber x; width = pieceWidth x; start = at; length = length (pieceBytes s x) })
 
 -- the rows of the tokens from the one at position p on, which begins at a; f tokens at most
 unfoldable pub rowsFrom : List ℕ → ℕ → ℕ → ℕ → ℕ → List ℕ

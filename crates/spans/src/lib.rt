@@ -4,6 +4,7 @@ ghost use mathlib.Core.Path.{_≡_};
 ghost use Prim.Native.Nat.{_≤_, _+_, _*_};
 ghost use lib.ListN.{length};
 ghost use Rattle.spans.specs.Spans.{byteAt, fourAt, textAt};
+ghost use Rattle.base.specs.Lent.{lent};
 
 // Counts names back.
 pub struct Distance(pub u32);
@@ -43,7 +44,7 @@ pub fn join(b0: u8, b1: u8, b2: u8, b3: u8) -> u32
 impl Cursor {
     pub fn next_byte(self, bytes: &[u8], end: Cursor) -> NextByte
         requires { ⌜ end .0 ≤ length (now bytes) ⌝ }
-        ensures { λ r. ⌜ r ≡ byteAt (now (bytes .entry)) (self .0) (end .0) ⌝ }
+        ensures { λ r. ⌜ r ≡ byteAt (lent bytes) (self .0) (end .0) ⌝ }
     {
         let at = self.0;
         let stop = end.0;
@@ -55,7 +56,7 @@ impl Cursor {
 
     pub fn next_four(self, bytes: &[u8], end: Cursor) -> NextFour
         requires { ⌜ end .0 ≤ length (now bytes) ⌝ }
-        ensures { λ r. ⌜ r ≡ fourAt (now (bytes .entry)) (self .0) (end .0) ⌝ }
+        ensures { λ r. ⌜ r ≡ fourAt (lent bytes) (self .0) (end .0) ⌝ }
     {
         let at = self.0;
         let stop = end.0;
@@ -76,7 +77,7 @@ impl Cursor {
     // The zero byte is dropped; one at the end or behind it does not count.
     pub fn next_text(self, bytes: &[u8], end: Cursor) -> NextText
         requires { ⌜ end .0 ≤ length (now bytes) ⌝ }
-        ensures { λ r. ⌜ r ≡ textAt (now (bytes .entry)) (self .0) (end .0) ⌝ }
+        ensures { λ r. ⌜ r ≡ textAt (lent bytes) (self .0) (end .0) ⌝ }
     {
         let at = self.0;
         let stop = end.0 as usize;

@@ -1,4 +1,2 @@
-pub mod Cases
 pub mod Runs
 pub mod Cuts
-pub mod Pieces

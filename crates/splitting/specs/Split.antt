@@ -1,4 +1,4 @@
--- The writing rule, "Split from the left": the token that begins at a place of a name, and where it ends. Position p is 1 to 127.
+-- The writing rule, "Split from the left": where the token that begins at a place of a name ends. Position p is 1 to 127.
 use Prim.Native.Nat.{ℕ, zero, suc, _+_, _-_}
 use mathlib.Core.List.{List}
 use lib.Dec.{ltb, eqb}
@@ -7,8 +7,6 @@ use Rattle.base.specs.Choice.{pick}
 use Rattle.base.specs.Memory.{part}
 use Rattle.digits.specs.Digits.{isDigit, valueOf}
 use Rattle.splitting.specs.declared.Cut.{Cut}
-use Rattle.splitting.specs.declared.Piece.{Piece}
-use Rattle.splitting.specs.declared.Piece.the-variants.{String, Char, Digits, Digits0}
 
 -- the class by which a byte belongs to a run: 1 for a digit, 0 for another byte. Splitting asks it here only
 unfoldable pub runClass : ℕ → ℕ
@@ -42,20 +40,3 @@ cutOf s p at =
     (pick (eqb p 127) (record { end = length s; number = 0 })
     (pick (eqb (runClass (getD s at 0)) 1) (numberRun s at (runLimit s at - at)) (record { end = runAt s at; number = 0 })))
     (record { end = at; number = 0 })
-
--- CHAR if it is one byte, else STRING
-unfoldable pub textPiece : List ℕ → ℕ → ℕ → Piece
-textPiece s at end = pick (eqb end (at + 1)) (Char (getD s at 0)) (String at end)
-
--- DIGITS0 if it begins with 0 (width is its length), else DIGITS
-unfoldable pub numberPiece : List ℕ → ℕ → ℕ → Piece
-numberPiece s at end =
-    pick (eqb (getD s at 0) 48)
-    (Digits0 (record { number = valueOf (part s at end); width = end - at }))
-    (Digits (valueOf (part s at end)))
-
--- the token: a number where a run of digits begins, but not at position 127
-unfoldable pub pieceAt : List ℕ → ℕ → ℕ → Piece
-pieceAt s p at =
-    pick (eqb p 127) (textPiece s at (length s))
-    (pick (eqb (runClass (getD s at 0)) 1) (numberPiece s at (runAt s at)) (textPiece s at (runAt s at)))

@@ -1,29 +1,21 @@
 -- From the bytes to the step: what a position's spans hold, and the step that they give.
 use Prim.Native.Nat.{ℕ, _+_, _-_, _≤_, _<_}
 use mathlib.Core.Path.{_≡_, refl, sym, _∙_}
-use mathlib.Core.Bool.{Bool, false}
-use native.Mathlib.Omega.{arith}
-use borrow.Author.Tests.{ne-eqb}
-use Rattle.base.proofs.Choice.{pick-false, pick-either, both-left}
+use mathlib.Core.Bool.{false}
+use Rattle.base.proofs.Choice.{pick-false}
 use Rattle.spans.specs.declared.Cursor.{Cursor}
 use Rattle.spans.specs.declared.NextByte.the-variants as byte
-use Rattle.spans.specs.declared.NextText.the-variants as text
 use Rattle.tokens.specs.declared.TokenType.{TokenType}
 use Rattle.tokens.specs.declared.TokenType.the-variants as type
 use Rattle.tokens.specs.Types.{typeOf}
 use Rattle.kept.specs.Tables.{rowAt}
-use Rattle.steps.specs.declared.Step.the-variants.{Got, End}
-use Rattle.steps.specs.Source.{Source, Earlier, byteIn}
-use Rattle.steps.specs.Steps.{tokenOf, carries, valueStep, barred, typedStep, stepAt}
-use Rattle.steps.proofs.Ways.{match-is}
-
-pub unbarred-before : (p : ℕ) (t : TokenType) → p < 128 → barred p t ≡ false
-unfolding barred
-unbarred-before p t h = both-left _ (ne-eqb p 128 (λ (w : p ≡ 128). omega arith))
-
-pub unbarred-end : (p : ℕ) → barred p type.End ≡ false
-unfolding barred carries
-unbarred-end p = pick-either (λ (x : Bool). x ≡ false) _ _ _ refl refl
+use Rattle.values.specs.declared.Step.the-variants.{Got}
+use Rattle.sources.specs.Source.{Source, Earlier, byteIn}
+use Rattle.repeats.specs.Repeats.{tokenOf}
+use Rattle.bars.specs.Bars.{barred}
+use Rattle.steps.specs.Steps.{valueStep, typedStep, stepAt}
+use Rattle.repeats.proofs.Ways.{match-is}
+use Rattle.bars.proofs.Laws.{unbarred-before}
 
 module _ (s : Source) (e : Earlier) (p : ℕ) {b : ℕ} {k : Cursor} (q : byteIn s p 0 ≡ byte.Value b k) where
   pub step-typed : (t : TokenType) → typeOf b ≡ t → barred p t ≡ false → stepAt s e p ≡ valueStep s e p k t

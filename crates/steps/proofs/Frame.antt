@@ -4,8 +4,8 @@ use mathlib.Core.Path.{_≡_, refl, ap, _∙_}
 use mathlib.Core.Bool.{true}
 use mathlib.Core.List.{List}
 use native.Mathlib.Omega.{arith}
-use borrow.Author.Tests.{leb-true, eqb-true}
-use lib.Dec.{leb, eqb}
+use borrow.Author.Tests.{leb-true}
+use lib.Dec.{leb}
 use lib.ListN.{length, take}
 use Rattle.base.specs.Choice.{pick}
 use Rattle.base.proofs.Choice.{both-true, pick-same}
@@ -16,17 +16,17 @@ use Rattle.block.specs.Block.{spanOf, cursorOf}
 use Rattle.tokens.specs.declared.TokenType.{TokenType}
 use Rattle.tokens.specs.declared.TokenType.the-variants as type
 use Rattle.tokens.specs.declared.Token.{Token}
-use Rattle.tokens.specs.declared.Token.the-variants.{String, Char, Digits, Digits0}
 use Rattle.tokens.specs.Types.{typeOf}
-use Rattle.base.proofs.Below.{same-at}
-use Rattle.kept.specs.declared.Row.{Row}
-use Rattle.kept.specs.Tables.{rowAt}
-use Rattle.kept.specs.Inside.{RowInside}
+use Rattle.kept.specs.Tables.{rowSize, rowAt}
 use Rattle.kept.proofs.Frame.{Alike, row-alike}
-use Rattle.steps.specs.declared.Step.the-variants.{Got, End, Refused}
-use Rattle.steps.specs.Source.{Source, source, Earlier, earlier, byteIn, fourIn, textIn}
-use Rattle.steps.specs.Steps.{stringStep, charStep, digitsStep, tokenOf, hasRow, rowHere, hasKind, deltaAt, delta0At, matchAt, valueStep, barred, typedStep, stepAt}
-use Rattle.steps.specs.Sound.{Rows}
+use Rattle.values.specs.declared.Step.the-variants.{Got, Refused}
+use Rattle.sources.specs.Source.{Source, source, Earlier, earlier, byteIn, fourIn, textIn}
+use Rattle.values.specs.Values.{stringStep, charStep, digitsStep}
+use Rattle.repeats.specs.Repeats.{tokenOf, hasRow, rowHere, hasKind, deltaAt, delta0At, matchAt}
+use Rattle.steps.specs.Steps.{valueStep, typedStep, stepAt}
+use Rattle.bars.specs.Bars.{barred}
+use Rattle.repeats.specs.Sound.{Rows}
+use Rattle.repeats.proofs.Frame.{token-same}
 
 -- The cursors
 
@@ -66,19 +66,8 @@ module _ (bytes dir cur other : List ℕ) (p : ℕ) (same : (i : ℕ) → i ≤ 
 
 -- The earlier name
 
-pub token-same : (text other : List ℕ) (used : ℕ) (r : Row) → take used text ≡ take used other → RowInside used r → tokenOf text r ≡ tokenOf other r
-unfolding tokenOf
-token-same text other used r e i =
-    ap (pick (eqb (r .kind) 1) (String (record { kept = true; start = r .start; end = r .start + r .length })))
-    (pick-same (eqb (r .kind) 2) _ _ _ _
-    (λ h.
-    let l : r .length ≡ 1 = i .kind .char (eqb-true _ _ h) in
-    let m : r .start + r .length ≤ used = i .ends in
-    ap Char (same-at text other used e (r .start) (omega arith)))
-    (λ h. refl))
-
 module _ (text others rows table : List ℕ) (first count used p : ℕ) (known : Rows used (earlier text rows first count)) (low : 1 ≤ p)
-    (texts : take used text ≡ take used others) (numbers : Alike rows table (first + count)) where
+    (texts : take used text ≡ take used others) (numbers : Alike rows table (rowSize * (first + count))) where
   here-same : leb p count ≡ true → rowAt rows (first + (p - 1)) ≡ rowAt table (first + (p - 1))
   here-same h = let l : p ≤ count = leb-true _ _ h in row-alike rows table (first + count) numbers (first + (p - 1)) (omega arith)
 
@@ -130,7 +119,7 @@ module _ (text others rows table : List ℕ) (first count used p : ℕ) (known :
   step-earlier s = typed-earlier s (byteIn s p 0)
 
   -- the rows are as sound in the other memory
-  pub rows-same : used ≤ length others → 5 * (first + count) ≤ length table → Rows used (earlier others table first count)
+  pub rows-same : used ≤ length others → rowSize * (first + count) ≤ length table → Rows used (earlier others table first count)
   rows-same h l =
       record {
         table = l;
@@ -142,7 +131,7 @@ module _ (text others rows table : List ℕ) (first count used p : ℕ) (known :
 -- both at once
 pub step-frame : (bytes dir cur other text others rows table : List ℕ) (first count used p : ℕ) → Rows used (earlier text rows first count) → 1 ≤ p
     → ((i : ℕ) → i ≤ 9 → cursorOf cur (spanOf p i) ≡ cursorOf other (spanOf p i))
-    → take used text ≡ take used others → Alike rows table (first + count)
+    → take used text ≡ take used others → Alike rows table (rowSize * (first + count))
     → stepAt (source bytes dir cur) (earlier text rows first count) p ≡ stepAt (source bytes dir other) (earlier others table first count) p
 step-frame bytes dir cur other text others rows table first count used p known low same texts numbers =
     step-cursors bytes dir cur other p same (earlier text rows first count) ∙ step-earlier text others rows table first count used p known low texts numbers (source bytes dir other)

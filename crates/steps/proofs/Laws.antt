@@ -1,5 +1,5 @@
 -- What a step that gave a token tells: where the token lies, how large its numbers are, and where its cursor stands.
-use Prim.Native.Nat.{ℕ, _+_, _-_, _*_, _^_, _≤_, _<_}
+use Prim.Native.Nat.{ℕ, _+_, _-_, _^_, _≤_, _<_}
 use mathlib.Core.Path.{_≡_, refl, sym, _∙_, subst}
 use mathlib.Core.Bool.{true, false}
 use mathlib.Core.List.{List}
@@ -21,26 +21,29 @@ use Rattle.spans.specs.declared.NextText.{NextText}
 use Rattle.spans.specs.Spans.{cursor, four}
 use Rattle.spans.proofs.Laws.{byte-found, four-below}
 use Rattle.block.specs.Block.{spanOf, endOf, cursorOf}
-use Rattle.block.specs.declared.State.{State}
 use Rattle.block.specs.Open.{Open}
 use Rattle.block.proofs.Laws.{span-below}
+use Rattle.block.specs.Streams.{stringStream, charStream, digits0Stream, dzlenStream, digitsStream, ddeltaStream, ddelta0Stream}
 use Rattle.tokens.specs.declared.TokenType.{TokenType}
 use Rattle.tokens.specs.declared.TokenType.the-variants as type
 use Rattle.tokens.specs.declared.Token.{Token}
-use Rattle.tokens.specs.declared.Token.the-variants.{String, Char, Digits, Digits0}
+use Rattle.tokens.specs.declared.Token.the-variants.{String}
 use Rattle.tokens.specs.Types.{typeOf}
 use Rattle.tokens.specs.Inside.{Inside, KeptBelow}
 use Rattle.kept.specs.declared.Row.{Row}
-use Rattle.kept.specs.declared.Entry.{Entry}
 use Rattle.kept.specs.Tables.{rowAt}
-use Rattle.kept.specs.Inside.{RowInside, EntryInside}
-use Rattle.kept.proofs.Laws.{row-more}
-use Rattle.steps.specs.declared.Step.{Step}
-use Rattle.steps.specs.declared.Step.the-variants.{Got, End, Refused}
-use Rattle.steps.specs.Source.{Source, Earlier, earlier, byteIn, fourIn, textIn}
-use Rattle.steps.specs.Steps.{stringStep, charStep, digitsStep, paddedStep, widthStep, digits0Step, deltaStep, delta0Step, tokenOf, hasRow, rowHere, hasKind, deltaAt, delta0At, matchAt, valueStep, carries, barred, typedStep, stepAt}
-use Rattle.steps.specs.Sound.{Rows, reach}
-use Rattle.steps.proofs.Moves.{at, stop, byte-cases, four-cases, text-cases, Moved, value-moved}
+use Rattle.kept.specs.Inside.{RowInside}
+use Rattle.values.specs.declared.Step.{Step}
+use Rattle.values.specs.declared.Step.the-variants.{Got, End, Refused}
+use Rattle.sources.specs.Source.{Source, Earlier, byteIn, fourIn, textIn}
+use Rattle.values.specs.Values.{stringStep, charStep, digitsStep, withWidth, paddedOf, paddedIn, paddedStep, digits0Step}
+use Rattle.sums.specs.Sums.{deltaStep, delta0Step}
+use Rattle.repeats.specs.Repeats.{tokenOf, hasRow, rowHere, hasKind, deltaAt, delta0At, matchAt}
+use Rattle.steps.specs.Steps.{valueStep, typedStep, stepAt}
+use Rattle.bars.specs.Bars.{carries, barred}
+use Rattle.repeats.specs.Sound.{Rows}
+use Rattle.sources.proofs.Cases.{at, stop, byte-cases, four-cases, text-cases}
+use Rattle.steps.proofs.Moves.{Moved, value-moved}
 
 -- what is known where a step is taken
 pub record Known (s : Source) (e : Earlier) (used p : ℕ) : Type 0 where
@@ -70,32 +73,32 @@ module _ (s : Source) (e : Earlier) (used p : ℕ) (k : Known s e used p) where
   ends : (i : ℕ) → i ≤ 9 → stop s p i ≤ length (s .bytes)
   ends i h = k .opened .within (spanOf p i) (span-below p i (k .last) h)
 
-  string-fine : Fine s e used type.String (stringStep (textIn s p 1))
+  string-fine : Fine s e used type.String (stringStep (textIn s p stringStream))
   unfolding stringStep
   string-fine =
-      text-cases s p 1 (λ (x : NextText). Fine s e used type.String (stringStep x))
-      (λ z l h. (fresh-inside (s .bytes) (e .text) (at s p 1) z l (omega (arith, ends 1 (omega arith))), λ q. absurd (never q)))
+      text-cases s p stringStream (λ (x : NextText). Fine s e used type.String (stringStep x))
+      (λ z l h. (fresh-inside (s .bytes) (e .text) (at s p stringStream) z l (omega (arith, ends 1 (omega arith))), λ q. absurd (never q)))
       tt
 
-  char-fine : Fine s e used type.Char (charStep (byteIn s p 2))
+  char-fine : Fine s e used type.Char (charStep (byteIn s p charStream))
   unfolding charStep
-  char-fine = byte-cases s p 2 (λ (x : NextByte). Fine s e used type.Char (charStep x)) (λ l. (k .bytes (at s p 2), tt)) tt
+  char-fine = byte-cases s p charStream (λ (x : NextByte). Fine s e used type.Char (charStep x)) (λ l. (k .bytes (at s p charStream), tt)) tt
 
-  digits-fine : Fine s e used type.Digits (digitsStep (fourIn s p 7))
+  digits-fine : Fine s e used type.Digits (digitsStep (fourIn s p digitsStream))
   unfolding digitsStep
-  digits-fine = four-cases s p 7 (λ (x : NextFour). Fine s e used type.Digits (digitsStep x)) (λ l. (four-below (s .bytes) (at s p 7) (k .bytes), tt)) tt
+  digits-fine = four-cases s p digitsStream (λ (x : NextFour). Fine s e used type.Digits (digitsStep x)) (λ l. (four-below (s .bytes) (at s p digitsStream) (k .bytes), tt)) tt
 
   padded-fine : (ty : TokenType) (n w : ℕ) (c : Cursor) → n < 2 ^ 32 → w ≤ 255 → Fine s e used ty (paddedStep n w c)
   unfolding paddedStep
   padded-fine ty n w c h l = pick-holds (λ (x : Step). Fine s e used ty x) (fitsWidth n w) _ _ (λ f. ((h, (f, l)), tt)) (λ f. tt)
 
-  digits0-fine : Fine s e used type.Digits0 (digits0Step (fourIn s p 3) (byteIn s p 4))
-  unfolding digits0Step widthStep
+  digits0-fine : Fine s e used type.Digits0 (digits0Step (paddedIn s p))
+  unfolding paddedOf withWidth digits0Step
   digits0-fine =
-      four-cases s p 3 (λ (x : NextFour). Fine s e used type.Digits0 (digits0Step x (byteIn s p 4)))
+      four-cases s p digits0Stream (λ (x : NextFour). Fine s e used type.Digits0 (digits0Step (paddedOf x (byteIn s p dzlenStream))))
       (λ l.
-      byte-cases s p 4 (λ (x : NextByte). Fine s e used type.Digits0 (widthStep (four (s .bytes) (at s p 3)) (cursor (at s p 3 + 4)) x))
-      (λ m. padded-fine type.Digits0 _ _ _ (four-below (s .bytes) (at s p 3) (k .bytes)) (omega (arith, k .bytes (at s p 4))))
+      byte-cases s p dzlenStream (λ (x : NextByte). Fine s e used type.Digits0 (digits0Step (withWidth (four (s .bytes) (at s p digits0Stream)) (cursor (at s p digits0Stream + 4)) x)))
+      (λ m. padded-fine type.Digits0 _ _ _ (four-below (s .bytes) (at s p digits0Stream) (k .bytes)) (omega (arith, k .bytes (at s p dzlenStream))))
       tt)
       tt
 
@@ -116,8 +119,8 @@ module _ (s : Source) (e : Earlier) (used p : ℕ) (k : Known s e used p) where
       let n = rowHere e p .number in
       pick-holds (λ (x : Step). Fine s e used type.Delta x) (hasKind e p 7) _ _
       (λ r.
-      byte-cases s p 8 (λ (x : NextByte). Fine s e used type.Delta (deltaStep n x))
-      (λ l. pick-holds (λ (x : Step). Fine s e used type.Delta x) (ltb (n + getD (s .bytes) (at s p 8) 0) (2 ^ 32)) _ _ (λ g. (ltb-true _ _ g, tt)) (λ g. tt))
+      byte-cases s p ddeltaStream (λ (x : NextByte). Fine s e used type.Delta (deltaStep n x))
+      (λ l. pick-holds (λ (x : Step). Fine s e used type.Delta x) (ltb (n + getD (s .bytes) (at s p ddeltaStream) 0) (2 ^ 32)) _ _ (λ g. (ltb-true _ _ g, tt)) (λ g. tt))
       tt)
       (λ r. tt)
 
@@ -130,8 +133,8 @@ module _ (s : Source) (e : Earlier) (used p : ℕ) (k : Known s e used p) where
       (λ r.
       let b = both-true (hasRow e p) (eqb (rowHere e p .kind) 4) r in
       let v : w ≤ 254 = row-inside (b .0) .kind .width (eqb-true _ _ (b .1)) in
-      byte-cases s p 9 (λ (x : NextByte). Fine s e used type.Delta0 (delta0Step n w x))
-      (λ l. pick-holds (λ (x : Step). Fine s e used type.Delta0 x) (ltb (n + getD (s .bytes) (at s p 9) 0) (2 ^ 32)) _ _ (λ g. padded-fine type.Delta0 _ w _ (ltb-true _ _ g) (omega arith)) (λ g. tt))
+      byte-cases s p ddelta0Stream (λ (x : NextByte). Fine s e used type.Delta0 (delta0Step n w x))
+      (λ l. pick-holds (λ (x : Step). Fine s e used type.Delta0 x) (ltb (n + getD (s .bytes) (at s p ddelta0Stream) 0) (2 ^ 32)) _ _ (λ g. padded-fine type.Delta0 _ w _ (ltb-true _ _ g) (omega arith)) (λ g. tt))
       tt)
       (λ r. tt)
 
@@ -270,24 +273,3 @@ typed-ended s e used p k byte.Short q r = absurd (refused-end r)
 pub ended : (s : Source) (e : Earlier) (used p : ℕ) → Known s e used p → stepAt s e p ≡ End → Ended s p
 unfolding stepAt
 ended s e used p k r = typed-ended s e used p k (byteIn s p 0) refl r
-
--- The earlier name's rows
-
-module _ (used : ℕ) (e : Earlier) (r : Rows used e) where
-  pub rows-more : (most : ℕ) → used ≤ most → most ≤ length (e .text) → Rows most e
-  rows-more most h l = record { table = r .table; most = r .most; room = l; each = λ j a b. row-more used most h _ (r .each j a b) }
-
-  -- what the functions require
-  pub rows-reach : used < 2 ^ 32 → Rows (reach (e .text)) e
-  rows-reach h = let u : used ≤ length (e .text) = r .room in rows-more (reach (e .text)) (omega arith) (omega arith)
-
--- no earlier name
-pub rows-none : (used : ℕ) (text rows : List ℕ) → used ≤ length text → Rows used (earlier text rows 0 0)
-rows-none used text rows h = record { table = omega arith; most = omega arith; room = h; each = λ j a b. absurd (omega arith) }
-
--- an earlier name that was judged
-pub rows-judged : (k : State) (text rows : List ℕ) (x : Entry) → 5 * k .rows ≤ length rows → k .text ≤ length text → EntryInside k rows x
-    → Rows (k .text) (earlier text rows (x .first) (x .rows))
-rows-judged k text rows x h l f =
-    let a : x .first + x .rows ≤ k .rows = f .rows .ends in
-    record { table = omega arith; most = f .rows .most; room = l; each = f .each }

@@ -1,70 +1,37 @@
--- What a position's spans give, case by case, and where the cursor past a value stands: in the span of its type.
-use Prim.Native.Nat.{ℕ, _+_, _^_, _≤_, _<_}
-use mathlib.Core.Path.{_≡_, refl, subst}
+-- Where the cursor past a value stands: in the span of its type.
+use Prim.Native.Nat.{ℕ, _+_, _^_, _≤_}
+use mathlib.Core.Path.{_≡_, subst}
 use native.Mathlib.Omega.{arith}
-use borrow.Author.Tests.{leb-true, ltb-true}
-use lib.Dec.{leb, ltb}
+use lib.Dec.{ltb}
 use lib.ListN.{getD}
 use Rattle.base.proofs.Choice.{pick-holds}
 use Rattle.digits.specs.Digits.{fitsWidth}
 use Rattle.spans.specs.declared.Cursor.{Cursor}
 use Rattle.spans.specs.declared.NextByte.{NextByte}
-use Rattle.spans.specs.declared.NextByte.the-variants as byte
 use Rattle.spans.specs.declared.NextFour.{NextFour}
-use Rattle.spans.specs.declared.NextFour.the-variants as four
 use Rattle.spans.specs.declared.NextText.{NextText}
-use Rattle.spans.specs.declared.NextText.the-variants as text
-use Rattle.spans.specs.Spans.{cursor, byteAt, four, fourAt, textEnd, textAt}
-use Rattle.spans.proofs.Laws.{end-found}
-use Rattle.block.specs.Block.{spanOf, endOf, cursorOf}
+use Rattle.spans.specs.Spans.{cursor, four}
+use Rattle.block.specs.Streams.{stringStream, charStream, digits0Stream, dzlenStream, digitsStream, ddeltaStream, ddelta0Stream}
 use Rattle.tokens.specs.declared.TokenType.{TokenType}
 use Rattle.tokens.specs.declared.TokenType.the-variants as type
 use Rattle.tokens.specs.declared.Token.{Token}
-use Rattle.steps.specs.declared.Step.{Step}
-use Rattle.steps.specs.declared.Step.the-variants.{Got, End, Refused}
-use Rattle.steps.specs.Source.{Source, Earlier, byteIn, fourIn, textIn}
-use Rattle.steps.specs.Steps.{stringStep, charStep, digitsStep, paddedStep, widthStep, digits0Step, deltaStep, delta0Step, hasRow, rowHere, hasKind, deltaAt, delta0At, matchAt, valueStep}
-
--- a span's cursor and its end
-abbrev pub at : Source → ℕ → ℕ → ℕ
-at s p i = cursorOf (s .cur) (spanOf p i)
-
-abbrev pub stop : Source → ℕ → ℕ → ℕ
-stop s p i = endOf (s .dir) (spanOf p i)
-
-module _ (s : Source) (p i : ℕ) where
-  pub byte-cases : (P : NextByte → Type 0) → (at s p i + 1 ≤ stop s p i → P (byte.Value (getD (s .bytes) (at s p i) 0) (cursor (at s p i + 1))))
-      → P byte.Short → P (byteIn s p i)
-  unfolding byteIn byteAt
-  byte-cases P f g = pick-holds P (leb (at s p i + 1) (stop s p i)) _ _ (λ h. f (leb-true _ _ h)) (λ h. g)
-
-  pub four-cases : (P : NextFour → Type 0) → (at s p i + 4 ≤ stop s p i → P (four.Value (four (s .bytes) (at s p i)) (cursor (at s p i + 4))))
-      → P four.Short → P (fourIn s p i)
-  unfolding fourIn fourAt
-  four-cases P f g = pick-holds P (leb (at s p i + 4) (stop s p i)) _ _ (λ h. f (leb-true _ _ h)) (λ h. g)
-
-  pub text-cases : (P : NextText → Type 0)
-      → ((z : ℕ) → at s p i ≤ z → z < stop s p i → P (text.Bytes (cursor (at s p i)) (cursor z) (cursor (z + 1))))
-      → P text.Unended → P (textIn s p i)
-  unfolding textIn textAt
-  text-cases P f g =
-      let z = textEnd (s .bytes) (at s p i) (stop s p i) in
-      pick-holds P (ltb z (stop s p i)) _ _
-      (λ h. let l : z < stop s p i = ltb-true _ _ h in f z (end-found (s .bytes) (at s p i) (stop s p i) refl l .low) l)
-      (λ h. g)
-
--- a cursor between where a span's stood and the span's end
-abbrev pub Between : Source → ℕ → ℕ → ℕ → Type 0
-Between s p i c = (at s p i ≤ c) × (c ≤ stop s p i)
+use Rattle.values.specs.declared.Step.{Step}
+use Rattle.values.specs.declared.Step.the-variants.{Got, End, Refused}
+use Rattle.sources.specs.Source.{Source, Earlier, byteIn}
+use Rattle.values.specs.Values.{stringStep, charStep, digitsStep, withWidth, paddedOf, paddedIn, paddedStep, digits0Step}
+use Rattle.sums.specs.Sums.{deltaStep, delta0Step}
+use Rattle.repeats.specs.Repeats.{hasRow, rowHere, hasKind, deltaAt, delta0At, matchAt}
+use Rattle.steps.specs.Steps.{valueStep}
+use Rattle.sources.proofs.Cases.{at, stop, byte-cases, four-cases, text-cases, Between}
 
 -- the cursor past a value, in the span of its type; a DZLEN has its byte
 abbrev pub Moved : Source → ℕ → ℕ → TokenType → Type 0
-Moved s p c type.String = Between s p 1 c
-Moved s p c type.Char = Between s p 2 c
-Moved s p c type.Digits = Between s p 7 c
-Moved s p c type.Digits0 = Between s p 3 c × (at s p 4 + 1 ≤ stop s p 4)
-Moved s p c type.Delta = Between s p 8 c
-Moved s p c type.Delta0 = Between s p 9 c
+Moved s p c type.String = Between s p stringStream c
+Moved s p c type.Char = Between s p charStream c
+Moved s p c type.Digits = Between s p digitsStream c
+Moved s p c type.Digits0 = Between s p digits0Stream c × (at s p dzlenStream + 1 ≤ stop s p dzlenStream)
+Moved s p c type.Delta = Between s p ddeltaStream c
+Moved s p c type.Delta0 = Between s p ddelta0Stream c
 Moved s p c type.Match = Unit
 Moved s p c type.End = Unit
 Moved s p c type.Other = Unit
@@ -81,14 +48,14 @@ module _ (s : Source) (e : Earlier) (p : ℕ) where
   padded-past ty n w c m = pick-holds (λ (x : Step). Past s p ty x) (fitsWidth n w) _ _ (λ f. m) (λ f. tt)
 
   value-past : (c : Cursor) (ty : TokenType) → Past s p ty (valueStep s e p c ty)
-  unfolding valueStep stringStep charStep digitsStep digits0Step widthStep deltaAt deltaStep delta0At delta0Step matchAt
-  value-past c type.String = text-cases s p 1 (λ (x : NextText). Past s p type.String (stringStep x)) (λ z l h. (omega arith, omega arith)) tt
-  value-past c type.Char = byte-cases s p 2 (λ (x : NextByte). Past s p type.Char (charStep x)) (λ l. (omega arith, l)) tt
-  value-past c type.Digits = four-cases s p 7 (λ (x : NextFour). Past s p type.Digits (digitsStep x)) (λ l. (omega arith, l)) tt
+  unfolding valueStep stringStep charStep digitsStep paddedOf withWidth digits0Step deltaAt deltaStep delta0At delta0Step matchAt
+  value-past c type.String = text-cases s p stringStream (λ (x : NextText). Past s p type.String (stringStep x)) (λ z l h. (omega arith, omega arith)) tt
+  value-past c type.Char = byte-cases s p charStream (λ (x : NextByte). Past s p type.Char (charStep x)) (λ l. (omega arith, l)) tt
+  value-past c type.Digits = four-cases s p digitsStream (λ (x : NextFour). Past s p type.Digits (digitsStep x)) (λ l. (omega arith, l)) tt
   value-past c type.Digits0 =
-      four-cases s p 3 (λ (x : NextFour). Past s p type.Digits0 (digits0Step x (byteIn s p 4)))
+      four-cases s p digits0Stream (λ (x : NextFour). Past s p type.Digits0 (digits0Step (paddedOf x (byteIn s p dzlenStream))))
       (λ l.
-      byte-cases s p 4 (λ (x : NextByte). Past s p type.Digits0 (widthStep (four (s .bytes) (at s p 3)) (cursor (at s p 3 + 4)) x))
+      byte-cases s p dzlenStream (λ (x : NextByte). Past s p type.Digits0 (digits0Step (withWidth (four (s .bytes) (at s p digits0Stream)) (cursor (at s p digits0Stream + 4)) x)))
       (λ m. padded-past type.Digits0 _ _ _ ((omega arith, l), m))
       tt)
       tt
@@ -96,8 +63,8 @@ module _ (s : Source) (e : Earlier) (p : ℕ) where
       let n = rowHere e p .number in
       pick-holds (λ (x : Step). Past s p type.Delta x) (hasKind e p 7) _ _
       (λ r.
-      byte-cases s p 8 (λ (x : NextByte). Past s p type.Delta (deltaStep n x))
-      (λ l. pick-holds (λ (x : Step). Past s p type.Delta x) (ltb (n + getD (s .bytes) (at s p 8) 0) (2 ^ 32)) _ _ (λ g. (omega arith, l)) (λ g. tt))
+      byte-cases s p ddeltaStream (λ (x : NextByte). Past s p type.Delta (deltaStep n x))
+      (λ l. pick-holds (λ (x : Step). Past s p type.Delta x) (ltb (n + getD (s .bytes) (at s p ddeltaStream) 0) (2 ^ 32)) _ _ (λ g. (omega arith, l)) (λ g. tt))
       tt)
       (λ r. tt)
   value-past c type.Delta0 =
@@ -105,8 +72,8 @@ module _ (s : Source) (e : Earlier) (p : ℕ) where
       let w = rowHere e p .width in
       pick-holds (λ (x : Step). Past s p type.Delta0 x) (hasKind e p 4) _ _
       (λ r.
-      byte-cases s p 9 (λ (x : NextByte). Past s p type.Delta0 (delta0Step n w x))
-      (λ l. pick-holds (λ (x : Step). Past s p type.Delta0 x) (ltb (n + getD (s .bytes) (at s p 9) 0) (2 ^ 32)) _ _ (λ g. padded-past type.Delta0 _ _ _ (omega arith, l)) (λ g. tt))
+      byte-cases s p ddelta0Stream (λ (x : NextByte). Past s p type.Delta0 (delta0Step n w x))
+      (λ l. pick-holds (λ (x : Step). Past s p type.Delta0 x) (ltb (n + getD (s .bytes) (at s p ddelta0Stream) 0) (2 ^ 32)) _ _ (λ g. padded-past type.Delta0 _ _ _ (omega arith, l)) (λ g. tt))
       tt)
       (λ r. tt)
   value-past c type.Match = pick-holds (λ (x : Step). Past s p type.Match x) (hasRow e p) _ _ (λ h. tt) (λ h. tt)

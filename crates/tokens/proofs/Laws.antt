@@ -18,6 +18,7 @@ use Rattle.tokens.specs.Types.{typeOf, typeNumber}
 use Rattle.tokens.specs.Tokens.{bytesOf, kindOf, lengthOf, rowOf}
 use Rattle.tokens.specs.Inside.{Inside, KeptBelow}
 use Rattle.base.proofs.Below.{same-part}
+use Rattle.kept.specs.Tables.{rowSize}
 
 -- a type's number is read as the type
 pub type-back : (t : TokenType) → typeOf (typeNumber t) ≡ t
@@ -41,7 +42,7 @@ length-bytes bytes text (Char b) i = refl
 length-bytes bytes text (Digits n) i = refl
 length-bytes bytes text (Digits0 p) i = length-padded (p .number) (p .width)
 
-pub length-row : (t : Token) (at : ℕ) → length (rowOf t at) ≡ 5
+pub length-row : (t : Token) (at : ℕ) → length (rowOf t at) ≡ rowSize
 unfolding rowOf
 length-row t at = refl
 

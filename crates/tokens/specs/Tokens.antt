@@ -1,10 +1,11 @@
--- A resolved token: what it prints, and the row of five numbers that it keeps.
+-- A resolved token: what it prints, and the row that it keeps.
 use Prim.Native.Nat.{ℕ, _-_}
 use mathlib.Core.List.{List, [], _∷_}
 use lib.ListN.{length}
 use Rattle.base.specs.Choice.{pick}
 use Rattle.base.specs.Memory.{part}
 use Rattle.digits.specs.Digits.{printed, padded}
+use Rattle.kept.specs.Tables.{rowNumbers}
 use Rattle.tokens.specs.declared.Token.{Token}
 use Rattle.tokens.specs.declared.Token.the-variants.{String, Char, Digits, Digits0}
 
@@ -43,6 +44,6 @@ lengthOf (Char b) = 1
 lengthOf (Digits n) = length (printed n)
 lengthOf (Digits0 p) = p .width
 
--- the row: kind, number, width, text start, text length
+-- the numbers of its row
 unfoldable pub rowOf : Token → ℕ → List ℕ
-rowOf t at = kindOf t ∷ numberOf t ∷ widthOf t ∷ at ∷ lengthOf t ∷ []
+rowOf t at = rowNumbers (record { kind = kindOf t; number = numberOf t; width = widthOf t; start = at; length = lengthOf t })

@@ -1,10 +1,16 @@
--- The numbers of the token types at positions 1 to 128, as document 01's table gives them, there and back: with `type_of` and `type_number`
--- the only place that knows them. What stands at position 0 is no token: DUP, 5, and DIFF, 6, are the head's (reading/specs/Reads, writing/specs/NamePuts).
+-- The numbers of the types, as the paper's table gives them: with the code's `type_of`, `type_number`, `DUP` and `DIFF` the only place that
+-- knows them. Those of the tokens, at positions 1 to 128, are given there and back; DUP and DIFF stand at position 0 alone and are no tokens.
 use Prim.Native.Nat.{ℕ}
 use lib.Dec.{eqb}
 use Rattle.base.specs.Choice.{pick}
 use Rattle.tokens.specs.declared.TokenType.{TokenType}
 use Rattle.tokens.specs.declared.TokenType.the-variants.{String, Char, Digits, Digits0, Delta, Delta0, Match, End, Other}
+
+abbrev pub dupNumber : ℕ
+dupNumber = 5
+
+abbrev pub diffNumber : ℕ
+diffNumber = 6
 
 -- the type that a byte says
 unfoldable pub typeOf : ℕ → TokenType

@@ -7,9 +7,13 @@ ghost use lib.ListN.{length};
 ghost use Rattle.base.specs.Choice.{pick};
 ghost use Rattle.base.specs.Memory.{written, part};
 ghost use Rattle.classes.specs.Classes.{allAllowed};
+ghost use Rattle.kept.specs.Tables.{rowSize};
 ghost use Rattle.tokens.specs.Types.{typeOf, typeNumber};
 ghost use Rattle.tokens.specs.Tokens.{bytesOf, kindOf, numberOf, widthOf, lengthOf, rowOf};
 ghost use Rattle.tokens.specs.Inside.{Inside, KeptBelow};
+ghost use Rattle.base.specs.Lent.{lent, left};
+use kept::Row;
+use kept::tables;
 
 // What a type byte says. Document 01's table, and `Other` for a byte that is not in it.
 pub enum TokenType {
@@ -43,6 +47,11 @@ pub enum Token {
     Digits(u32),
     Digits0(Padded),
 }
+
+// The types at position 0, which are no tokens.
+pub const DUP: u8 = 5;
+
+pub const DIFF: u8 = 6;
 
 pub fn type_of(b: u8) -> TokenType
     ensures { λ r. ⌜ r ≡ typeOf b ⌝ }
@@ -132,7 +141,7 @@ pub fn length(t: Token) -> u32
 
 fn text_allowed(t: Text, bytes: &[u8], text: &[u8]) -> bool
     requires { ⌜ (t .start ≤ t .end) × (t .end ≤ length (pick (t .kept) (now text) (now bytes))) ⌝ }
-    ensures { λ r. ⌜ r ≡ allAllowed (part (pick (t .kept) (now (text .entry)) (now (bytes .entry))) (t .start) (t .end)) ⌝ }
+    ensures { λ r. ⌜ r ≡ allAllowed (part (pick (t .kept) (lent text) (lent bytes)) (t .start) (t .end)) ⌝ }
 {
     let from = t.start as usize;
     let to = t.end as usize;
@@ -146,7 +155,7 @@ fn text_allowed(t: Text, bytes: &[u8], text: &[u8]) -> bool
 // Every byte printed is one that SAM allows; a number has digits only.
 pub fn allowed(t: Token, bytes: &[u8], text: &[u8]) -> bool
     requires { ⌜ Inside (now bytes) (now text) t ⌝ }
-    ensures { λ r. ⌜ r ≡ allAllowed (bytesOf (now (bytes .entry)) (now (text .entry)) t) ⌝ }
+    ensures { λ r. ⌜ r ≡ allAllowed (bytesOf (lent bytes) (lent text) t) ⌝ }
 {
     match t {
         Token::String(s) => text_allowed(s, bytes, text),
@@ -160,7 +169,7 @@ fn put_text(t: Text, bytes: &[u8], text: &mut [u8], at: usize)
     requires { ⌜ (t .start ≤ t .end) × (t .end ≤ length (pick (t .kept) (now text) (now bytes))) ⌝ }
     requires { ⌜ (t .kept ≡ true → t .end ≤ at) ⌝ }
     requires { ⌜ at + (t .end - t .start) ≤ length (now text) ⌝ }
-    ensures { λ _. ⌜ now (text .exit) ≡ written (now (text .entry)) at (part (pick (t .kept) (now (text .entry)) (now (bytes .entry))) (t .start) (t .end)) ⌝ }
+    ensures { λ _. ⌜ left text ≡ written (lent text) at (part (pick (t .kept) (lent text) (lent bytes)) (t .start) (t .end)) ⌝ }
 {
     let from = t.start as usize;
     let to = t.end as usize;
@@ -177,7 +186,7 @@ pub fn put(t: Token, bytes: &[u8], text: &mut [u8], at: usize) -> u32
     requires { ⌜ KeptBelow at t ⌝ }
     requires { ⌜ at + lengthOf t ≤ length (now text) ⌝ }
     ensures { λ r. ⌜ r ≡ lengthOf t ⌝ }
-    ensures { λ _. ⌜ now (text .exit) ≡ written (now (text .entry)) at (bytesOf (now (bytes .entry)) (now (text .entry)) t) ⌝ }
+    ensures { λ _. ⌜ left text ≡ written (lent text) at (bytesOf (lent bytes) (lent text) t) ⌝ }
 {
     match t {
         Token::String(s) => {
@@ -199,8 +208,15 @@ pub fn put(t: Token, bytes: &[u8], text: &mut [u8], at: usize) -> u32
 // A token's row, its text starting at a place. Who puts it has found the token's length before.
 pub fn put_row(t: Token, len: u32, rows: &mut [u32], row: usize, at: u32)
     requires { ⌜ len ≡ lengthOf t ⌝ }
-    requires { ⌜ 5 * row + 5 ≤ length (now rows) ⌝ }
-    ensures { λ _. ⌜ now (rows .exit) ≡ written (now (rows .entry)) (5 * row) (rowOf t at) ⌝ }
+    requires { ⌜ rowSize * row + rowSize ≤ length (now rows) ⌝ }
+    ensures { λ _. ⌜ left rows ≡ written (lent rows) (rowSize * row) (rowOf t at) ⌝ }
 {
-    base::put_five(rows, 5 * row, kind(t), number(t), width(t), at, len);
+    let r = Row {
+        kind: kind(t),
+        number: number(t),
+        width: width(t),
+        start: at,
+        length: len,
+    };
+    tables::put_row(rows, row, r);
 }

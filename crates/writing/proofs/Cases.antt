@@ -11,15 +11,20 @@ use Rattle.base.specs.Every.{every}
 use Rattle.classes.specs.Classes.{isAllowed}
 use Rattle.spans.specs.Spans.{fourBytes}
 use Rattle.block.specs.Block.{spanOf}
-use Rattle.splitting.specs.Split.{runClass, runEnd, runLimit, runAt, cutAt, textPiece, numberPiece, pieceAt}
-use Rattle.splitting.specs.Choices.{riseOf, leanString, leanChar, byRise, leanDigits, byRise0, leanDigits0, lean, choiceAt, choicesFrom, choicesOf, anew, referenceOf, leansOn}
+use Rattle.splitting.specs.Split.{runClass, runEnd, runLimit, runAt, cutAt}
+use Rattle.pieces.specs.Pieces.{textPiece, numberPiece, pieceAt}
+use Rattle.rises.specs.Rises.{riseOf}
+use Rattle.choices.specs.Choices.{leanString, leanChar, byRise, leanDigits, byRise0, leanDigits0, lean, choiceAt, choicesFrom, choicesOf}
+use Rattle.references.specs.References.{anew, referenceOf, leansOn}
 use Rattle.laying.specs.Puts.{share, contentOf, joined, startIn, totalOf}
 use Rattle.block.specs.declared.Refusal.the-variants.{Plain, At}
 use Rattle.writing.specs.declared.WriteAnswer.{WriteAnswer}
 use Rattle.writing.specs.declared.WriteAnswer.the-variants.{Written, Refused}
-use Rattle.writing.specs.Names.{namesAfter, namesOf, ended, goodName, judgedFrom}
+use Rattle.inputs.specs.Inputs.{namesAfter, namesOf, ended, goodName, judgedFrom}
 use Rattle.tokens.specs.Types.{typeNumber}
-use Rattle.writing.specs.NamePuts.{pieceType, choiceType, piecePuts, valuePuts, choicePuts, tokenPuts, headPuts, referencePuts, namePuts, putsFrom, putsOf}
+use Rattle.tokenputs.specs.TokenPuts.{pieceType, choiceType, choicePuts, tokenPuts}
+use Rattle.valueputs.specs.ValuePuts.{piecePuts, valuePuts}
+use Rattle.nameputs.specs.NamePuts.{headPuts, referencePuts, namePuts, putsFrom, putsOf}
 use Rattle.writing.specs.Writes.{countable, laidOf, judgedOf, writeOf}
 
 -- `run7:0098`, `run7:0099`, `run7:0100`, `run7:0100`

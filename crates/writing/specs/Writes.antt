@@ -1,19 +1,18 @@
 -- "Writing: wrong directory length 1, then 12, the first bad name's 8, then 9; it fills the directory and the bytes up to its total and no more."
-use Prim.Native.Nat.{ℕ, _≤_}
-use mathlib.Core.Path.{_≡_}
-use mathlib.Core.Bool.{Bool, true}
+use Prim.Native.Nat.{ℕ}
+use mathlib.Core.Bool.{Bool}
 use mathlib.Core.List.{List}
 use lib.Dec.{leb, eqb}
 use lib.ListN.{length}
 use Rattle.base.specs.Choice.{pick, both}
 use Rattle.block.specs.declared.Refusal.the-variants.{Plain, At}
 use Rattle.laying.specs.Puts.{totalOf, directoryOf, bytesOf}
-use Rattle.writing.specs.declared.Judged.{Judged}
-use Rattle.writing.specs.declared.Judged.the-variants.{Fine, Bad}
+use Rattle.inputs.specs.declared.Judged.{Judged}
+use Rattle.inputs.specs.declared.Judged.the-variants.{Fine, Bad}
 use Rattle.writing.specs.declared.WriteAnswer.{WriteAnswer}
 use Rattle.writing.specs.declared.WriteAnswer.the-variants.{Written, Refused}
-use Rattle.writing.specs.Names.{namesOf, ended, judgedFrom}
-use Rattle.writing.specs.NamePuts.{putsOf}
+use Rattle.inputs.specs.Inputs.{namesOf, ended, judgedFrom}
+use Rattle.nameputs.specs.NamePuts.{putsOf}
 
 -- the answer, and the directory and the bytes after it
 pub record Writing : Type 0 where
@@ -27,13 +26,6 @@ writing a d b = record { answer = a; directory = d; bytes = b }
 -- at most 65,536 names, the last one ended
 unfoldable pub countable : List ℕ → Bool
 countable input = both (ended input) (leb (length (namesOf input)) 65536)
-
--- an input of good names, and a directory for it
-pub record Ready (input dir : List ℕ) : Type 0 where
-  pub ends : ended input ≡ true
-  pub few : length (namesOf input) ≤ 65536
-  pub fine : judgedFrom 0 (namesOf input) ≡ Fine
-  pub table : length dir ≡ 2580
 
 -- names that are all good, if there is room for the bytes
 unfoldable pub laidOf : List (List ℕ) → List ℕ → List ℕ → Writing

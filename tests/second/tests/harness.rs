@@ -1,6 +1,6 @@
 //! The comparison itself: it agrees where it should, meets every answer, and finds what is wrong.
-//! No call of the library is made, so there is nothing here for valgrind.
-#![cfg(not(feature = "bare"))]
+//! No call of the library is made, so this is run without it, for whatever machine this is.
+#![cfg(not(feature = "linked"))]
 
 use second::calls::{Calls, Second};
 use second::cases::{edges, large, run};

@@ -3,8 +3,9 @@
 
 use second::boundary::Linked;
 use second::calls::Second;
-use second::cases::{edges, large, run};
+use second::cases::{edges, large, run_part};
 use second::compare::{compare, Tally};
+use std::thread;
 
 /// How many times a plain run's cases; AQSURVEL_CASES asks for more.
 fn times() -> u64 {
@@ -14,11 +15,20 @@ fn times() -> u64 {
     })
 }
 
+/// A part for each processor.
 #[test]
 fn all_families() {
-    let tally = run(&Second, &Linked, times()).unwrap_or_else(|found| panic!("{found}"));
-    println!("{tally:?}");
-    assert!(tally.values().sum::<u64>() > 300_000);
+    let parts = thread::available_parallelism().map_or(1, usize::from);
+    let tallies: Vec<Tally> = thread::scope(|scope| {
+        let begin = |part| scope.spawn(move || run_part(&Second, &Linked, times(), (part, parts)));
+        let begun: Vec<_> = (0..parts as u64).map(begin).collect();
+        let ended = begun.into_iter().map(|part| part.join().unwrap());
+        ended.collect::<Result<_, _>>()
+    })
+    .unwrap_or_else(|found| panic!("{found}"));
+    let calls: u64 = tallies.iter().flat_map(Tally::values).sum();
+    println!("{} times, {calls} calls", times());
+    assert!(calls > 300_000 * times());
 }
 
 #[test]

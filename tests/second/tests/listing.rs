@@ -18,9 +18,18 @@ fn listed(input: &[u8]) -> String {
     String::from_utf8(listing(input)).unwrap()
 }
 
-/// The program itself, not its function.
+/// The program itself, not its function; under the emulator where these tests run under one.
+fn program() -> Command {
+    let listing = env!("CARGO_BIN_EXE_listing");
+    let runner = std::env::var("CARGO_TARGET_X86_64_UNKNOWN_LINUX_GNU_RUNNER").unwrap_or_default();
+    let mut words = runner.split_whitespace().chain([listing]);
+    let mut command = Command::new(words.next().unwrap_or(listing));
+    command.args(words);
+    command
+}
+
 fn printed(input: &[u8]) -> String {
-    let mut program = Command::new(env!("CARGO_BIN_EXE_listing"))
+    let mut program = program()
         .stdin(Stdio::piped())
         .stdout(Stdio::piped())
         .spawn()

@@ -36,7 +36,9 @@ shared-slice-read-if3-2 : tie.Need-shared-slice-read-if3-2 Inv-loop μ-loop
 shared-slice-read-if3-2 c = search needs
 
 returns-3 : tie.Need-returns-3 Inv-loop μ-loop
-returns-3 c = let a = c .before .before .before .before .before .args in other-byte (now (a .a)) (now (a .b)) (length (now (a .a)) - 1) (search needs)
+returns-3 c =
+    let at-start : tie.Start Inv-loop μ-loop = search in
+    let a = at-start .args in other-byte (now (a .a)) (now (a .b)) (length (now (a .a)) - 1) (search needs)
 
 loop-holds : tie.Need-loop-holds Inv-loop μ-loop
 loop-holds c = (rw both-none, search needs)
@@ -55,14 +57,17 @@ loop-less c = search needs
 
 loop-again : tie.Need-loop-again Inv-loop μ-loop
 loop-again c =
-    let l = c .before .before .before .loop in
-    let a = c .before .before .before .before .before .before .before .before .before .args in
+    let at-loop : tie.At-loop Inv-loop μ-loop = search in
+    let at-start : tie.Start Inv-loop μ-loop = search in
+    let l = at-loop .loop in
+    let a = at-start .args in
     (same-turn (now (a .a)) (now (a .b)) (l .i) (l .equal) (l .inv .0) (omega arith) (omega arith) (rw and-both), search needs)
 
 returns-4 : tie.Need-returns-4 Inv-loop μ-loop
 returns-4 c =
+    let at-start : tie.Start Inv-loop μ-loop = search in
     let l = c .before .loop in
-    let a = c .before .before .before .before .before .before .before .args in
+    let a = at-start .args in
     same-done (now (a .a)) (now (a .b)) (l .i) (l .equal) (l .inv .0) (omega arith) (omega arith)
 
 pub same-spec : {M : Type 1} → statement M

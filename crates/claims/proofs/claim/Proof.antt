@@ -5,7 +5,7 @@ use borrow.Author.Tests.{not-true, not-false}
 use denote.Ref.{now}
 use lib.ListN.{length}
 use Rattle.base.specs.Memory.{part}
-use Rattle.kept.specs.Tables.{room}
+use Rattle.kept.specs.Tables.{entrySize, room}
 use Rattle.kept.specs.Judgement.{textCounts, entryText}
 use Rattle.kept.proofs.Laws.{text-counted, text-inside}
 use Rattle.claims.specs.Claims.{nameText}
@@ -15,11 +15,15 @@ use Rattle.claims.proofs.claim.Statement.{statement}
 use Rattle.claims.proofs.claim.Tie as tie
 
 -- what holds past the first test, and past the third
-counts-hold : (c : tie.Else1) → let a = c .before .before .before .before .before .args in textCounts (a .state) (length (now (a .text))) (room (now (a .names))) ≡ true
+counts-hold : (c : tie.Else1) →
+    let at-start : tie.Start = search in
+    let a = at-start .args in textCounts (a .state) (length (now (a .text))) (room entrySize (now (a .names))) ≡ true
 unfolding room
 counts-hold c = sym (c .before .text-counts .ensures) ∙ not-false (c .before .text-counts .result) (c .if1 .left)
 
-text-holds : (c : tie.Else3) → entryText (c .before .before .before .before .before .before .before .before .before .before .args .state) (c .before .before .entry-at .result) ≡ true
+text-holds : (c : tie.Else3) →
+    let at-start : tie.Start = search in
+    entryText (at-start .args .state) (c .before .before .entry-at .result) ≡ true
 text-holds c = sym (c .before .entry-text .ensures) ∙ not-false (c .before .entry-text .result) (c .if3 .left)
 
 text-counts-requires : tie.Need-text-counts-requires
@@ -34,7 +38,8 @@ returns-2 c = unread _ _ _ _ _ (counts-hold (c .before .before)) (omega arith)
 
 entry-at-requires : tie.Need-entry-at-requires
 entry-at-requires c κs =
-    let a = c .before .before .before .before .before .before .before .args in
+    let at-start : tie.Start = search in
+    let a = at-start .args in
     let t = text-counted (a .state) (now (a .text)) (now (a .names)) (counts-hold (c .before .before)) in
     omega arith
 
@@ -43,7 +48,7 @@ entry-text-requires c κs = search needs
 
 returns-3 : tie.Need-returns-3
 returns-3 c =
-    let b = c .before .before .before in
+    let b : tie.Else2 = search in
     outside _ _ _ _ _ (counts-hold (b .before .before)) (omega arith) (c .before .before .entry-at .ensures)
     (sym (c .before .entry-text .ensures) ∙ not-true (c .before .entry-text .result) (c .if3 .taken))
 
@@ -64,10 +69,12 @@ part-same-start c = search needs
 
 part-same-end : tie.Need-part-same-end
 part-same-end c =
-    let b = c .before .before .before .before .before in
-    let a = b .before .before .before .before .before .before .before .args in
+    let at-entry-at : tie.After-entry-at = search in
+    let b : tie.Else2 = search in
+    let at-start : tie.Start = search in
+    let a = at-start .args in
     let t = text-counted (a .state) (now (a .text)) (now (a .names)) (counts-hold (b .before .before)) in
-    let i = text-inside (a .state) (c .before .before .before .before .entry-at .result) (text-holds (c .before .before)) in
+    let i = text-inside (a .state) (at-entry-at .entry-at .result) (text-holds (c .before .before)) in
     omega arith
 
 same-requires : tie.Need-same-requires
@@ -76,9 +83,10 @@ same-requires c κs = search needs
 returns-4 : tie.Need-returns-4
 unfolding nameText part
 returns-4 c =
-    let e = c .before .before .before .before .before in
-    let b = e .before .before .before in
-    let a = b .before .before .before .before .before .before .before .args in
+    let e : tie.Else3 = search in
+    let b : tie.Else2 = search in
+    let at-start : tie.Start = search in
+    let a = at-start .args in
     let v =
     equal (a .number) (now (a .claimed)) (a .state) (now (a .text)) (now (a .names)) (counts-hold (b .before .before)) (omega arith) (e .before .before .entry-at .ensures) (text-holds e)
     (sym (c .before .same .ensures) ∙ c .if4 .taken) in
@@ -87,9 +95,10 @@ returns-4 c =
 returns-5 : tie.Need-returns-5
 unfolding nameText part
 returns-5 c =
-    let e = c .before .before .before .before .before in
-    let b = e .before .before .before in
-    let a = b .before .before .before .before .before .before .before .args in
+    let e : tie.Else3 = search in
+    let b : tie.Else2 = search in
+    let at-start : tie.Start = search in
+    let a = at-start .args in
     let v =
     unequal (a .number) (now (a .claimed)) (a .state) (now (a .text)) (now (a .names)) (counts-hold (b .before .before)) (omega arith) (e .before .before .entry-at .ensures) (text-holds e)
     (sym (c .before .same .ensures) ∙ c .if4 .left) in

@@ -8,12 +8,13 @@ use Rattle.base.specs.Memory.{written}
 use Rattle.base.proofs.Holding.{Holds, holds-written, holds-left, holds-right, holds-part, holds-first}
 use Rattle.kept.proofs.Frame.{entry-holds}
 use Rattle.block.specs.Open.{Open}
+use Rattle.block.specs.Streams.{dupStream}
 use Rattle.kept.specs.declared.Entry.{Entry}
 use Rattle.kept.specs.Tables.{Kept, entryAt}
 use Rattle.kept.specs.Inside.{Counted}
-use Rattle.steps.specs.Source.{Source}
+use Rattle.sources.specs.Source.{Source}
 use Rattle.names.specs.Names.{Draft}
-use Rattle.reading.specs.Reads.{kept}
+use Rattle.entries.specs.Entries.{kept}
 use Rattle.claims.specs.Claims.{nameText}
 use Rattle.demands.specs.Takes.{headTakes}
 use Rattle.demands.specs.Right.{Refers}
@@ -21,7 +22,7 @@ use Rattle.demands.specs.Adds.{Adds, Kind, by-dup, by-diff}
 use Rattle.demands.specs.Refusals.{Ready}
 use Rattle.demands.proofs.Lemmas.Moves.{Moves}
 use Rattle.demands.proofs.Lemmas.Writes.{alike-written}
-use Rattle.demands.proofs.Lemmas.Making.{Made, dup, diff, made-fives, Room}
+use Rattle.demands.proofs.Lemmas.Making.{Made, dup, diff, made-whole, Room}
 
 abbrev pub entry : ℕ → ℕ → ℕ → ℕ → ℕ → Entry
 entry a l f r d = record { start = a; length = l; first = f; rows = r; distance = d }
@@ -38,7 +39,7 @@ record Moved (s : Source) (m : Kept) (x : Draft) (e : Entry) : Type 0 where
 
 moved-made : (s : Source) (m : Kept) (x : Draft) (first rows d : ℕ) → Made s m x first rows d → Moved s m x (entry (m .state .text) (length (x .text)) first rows d)
 unfolding nameText
-moved-made s m x first rows d (dup b n e w) = record { taken = headTakes 5; kind = by-dup _ refl refl; moves = w }
+moved-made s m x first rows d (dup b n e w) = record { taken = headTakes dupStream; kind = by-dup _ refl refl; moves = w }
 moved-made s m x first rows d (diff y b r w v) = record { taken = _; kind = by-diff (x .text) (x .count) _ refl refl; moves = v }
 
 -- where its text with byte 10 and its entry stand
@@ -49,7 +50,7 @@ module _ (m : Kept) (x : Draft) (first rows d : ℕ) (c : Counted m) where
 
   pub entry-kept : entryAt (kept m x first rows d .kept .names) (m .state .names) ≡ entry (m .state .text) (length (x .text)) first rows d
   unfolding kept
-  entry-kept = entry-holds _ _ _ _ _ _ _ (holds-written _ _ _ (c .entries))
+  entry-kept = entry-holds _ _ (entry (m .state .text) (length (x .text)) first rows d) (holds-written _ _ _ (c .entries))
 
 module _ (s : Source) (m : Kept) (x : Draft) (first rows d : ℕ) (r : Ready s m) (o : Made s m x first rows d) (f : Room m x) (opened : Open (s .bytes) (s .dir) (x .cur)) where
   pub kept-adds : Adds s m (m .state .names) (kept m x first rows d)
@@ -71,7 +72,7 @@ module _ (s : Source) (m : Kept) (x : Draft) (first rows d : ℕ) (r : Ready s m
         starts = ap (λ n. n .start) e;
         long = ap (λ n. n .length) e;
         refers = rw e (refers-made s m x first rows d o);
-        table = alike-written (m .rows) _ (x .rows) _ (omega (arith, made-fives s m x first rows d o)) (f .rows);
+        table = alike-written (m .rows) _ (x .rows) _ (omega (arith, made-whole s m x first rows d o)) (f .rows);
         kind = rw e (v .kind);
         moves = v .moves .by;
         opened = opened;

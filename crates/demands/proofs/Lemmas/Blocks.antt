@@ -13,8 +13,9 @@ use Rattle.base.proofs.Choice.{both-true, by-test}
 use Rattle.block.specs.Block.{spanOf, startOf, endOf, cursorOf, starts, state}
 use Rattle.block.proofs.Laws.{span-below, cursor-set-same, cursor-set-other, starts-length, starts-cursor, sound-of, opens-fresh}
 use Rattle.kept.specs.Tables.{keeping}
-use Rattle.steps.specs.Source.{source}
-use Rattle.reading.specs.Reads.{Outcome, nextOf}
+use Rattle.sources.specs.Source.{source}
+use Rattle.entries.specs.Outcomes.{Outcome}
+use Rattle.inner.specs.Next.{nextOf}
 use Rattle.demands.specs.Runs.{Lent, lent, read, left, Fresh, reading, after, run}
 use Rattle.demands.specs.Cases.{Stream, bytesIn, dirFrom, inDirectory, openOver, Told, told, readOver}
 use Rattle.demands.proofs.Lemmas.Ways.{ready-reads}

@@ -12,18 +12,21 @@ use Rattle.block.specs.declared.State.{State}
 use Rattle.block.specs.Block.{state}
 use Rattle.block.specs.Open.{Open}
 use Rattle.block.proofs.Laws.{Accepted, accepted, accepted-open}
-use Rattle.kept.specs.Tables.{Kept, entryAt, rowAt, keeping}
+use Rattle.kept.specs.Tables.{rowSize, Kept, entryAt, rowAt, keeping}
 use Rattle.kept.specs.Inside.{Counted, Earlier}
 use Rattle.kept.proofs.Laws.{fresh-counted, earlier}
 use Rattle.kept.proofs.Frame.{row-written}
 use Rattle.kept.proofs.Later.{Later}
 use Rattle.claims.specs.Claims.{nameText}
-use Rattle.steps.specs.Source.{Source, source}
+use Rattle.sources.specs.Source.{Source, source}
 use Rattle.names.specs.Names.{Draft}
-use Rattle.names.specs.Runs.{textLength}
-use Rattle.reading.specs.Fits.{AllFit, AllSpelt}
-use Rattle.reading.specs.Reads.{kept, entryBack, rowsOf, Outcome, readOf}
-use Rattle.reading.proofs.Holding as reads
+use Rattle.runs.specs.Runs.{textLength}
+use Rattle.earlier.specs.Fits.{AllFit, AllSpelt}
+use Rattle.entries.specs.Entries.{kept}
+use Rattle.earlier.specs.Back.{entryBack, rowsOf}
+use Rattle.entries.specs.Outcomes.{Outcome}
+use Rattle.reads.specs.Reads.{readOf}
+use Rattle.reads.proofs.Holding as reads
 use Rattle.demands.specs.Right.{Home, Right}
 use Rattle.demands.specs.Runs.{lent, Lent, read, left, Fresh, Call, reading, claiming, after}
 use Rattle.demands.specs.Refusals.{Ready, ReadCase, refuses, ends, keeps}
@@ -69,7 +72,7 @@ sure-right bytes dir l s =
 
 -- a name more
 module _ (s : Source) (m : Kept) (r : Ready s m) where
-  row-kept : (x : Draft) (first rows d j : ℕ) → length (x .rows) ≡ 5 * x .count → m .state .rows ≤ j → j < m .state .rows + x .count
+  row-kept : (x : Draft) (first rows d j : ℕ) → length (x .rows) ≡ rowSize * x .count → m .state .rows ≤ j → j < m .state .rows + x .count
       → rowAt (kept m x first rows d .kept .rows) j ≡ rowAt (x .rows) (j - m .state .rows)
   unfolding kept
   row-kept x first rows d j f a l = row-written (m .rows) (m .state .rows) (x .rows) j (j - m .state .rows) (r .counts .rowsUsed) (omega arith) (omega arith)
@@ -82,7 +85,7 @@ module _ (s : Source) (m : Kept) (r : Ready s m) where
   own-home x first rows d (dup b n e v) q j a l = absurd (omega arith)
   own-home x first rows d (diff y b n p v) q j a l =
       let i : ℕ = j - m .state .rows in
-      let k = row-kept x first rows d j (p .fives) a l in
+      let k = row-kept x first rows d j (p .whole) a l in
       record {
         name = m .state .names;
         kept = omega arith;
@@ -105,8 +108,8 @@ module _ (s : Source) (m : Kept) (r : Ready s m) where
       let j : z - m .state .rows + 1 ≡ x .count = omega arith in
       let e : m .state .text + (m .state .text + length (x .text) - m .state .text) ≡ m .state .text + length (x .text) = omega arith in
       rw (
-        row-kept x first rows d (m .state .rows) (p .fives) (omega arith) (omega arith),
-        row-kept x first rows d z (p .fives) (omega arith) (omega arith),
+        row-kept x first rows d (m .state .rows) (p .whole) (omega arith) (omega arith),
+        row-kept x first rows d z (p .whole) (omega arith) (omega arith),
         p .last (z - m .state .rows) j,
         p .from (m .state .rows - m .state .rows) (omega arith) .1 i,
         e,

@@ -11,9 +11,9 @@ use Rattle.kept.specs.Tables.{Kept, entryAt, rowAt}
 use Rattle.kept.specs.Inside.{TextInside, EntryInside, Earlier}
 use Rattle.kept.proofs.Later.{Later, entry-later, row-later, part-later}
 use Rattle.claims.specs.Claims.{nameText}
-use Rattle.steps.specs.Source.{Source}
-use Rattle.names.specs.Runs.{textLength}
-use Rattle.reading.specs.Reads.{Outcome}
+use Rattle.sources.specs.Source.{Source}
+use Rattle.runs.specs.Runs.{textLength}
+use Rattle.entries.specs.Outcomes.{Outcome}
 use Rattle.demands.specs.Right.{Home, Refers}
 use Rattle.demands.specs.Adds.{Adds}
 use Rattle.demands.proofs.Lemmas.Printing.{rowsText}

@@ -12,15 +12,17 @@ use Rattle.spans.specs.declared.Cursor.{Cursor}
 use Rattle.spans.proofs.Laws.{end-found}
 use Rattle.block.specs.Block.{spanOf, cursorOf}
 use Rattle.block.proofs.Laws.{span-below, cursor-set-same, cursor-set-other}
+use Rattle.block.specs.Streams.{dzlenStream, diffStream}
 use Rattle.tokens.specs.declared.TokenType.{TokenType}
 use Rattle.tokens.specs.declared.TokenType.the-variants as type
 use Rattle.tokens.specs.declared.Token.{Token}
-use Rattle.steps.specs.Source.{Source, Earlier, byteIn}
-use Rattle.names.specs.Names.{Draft, draft, past, typeIn, valuePast, grown, ended}
-use Rattle.names.proofs.Cursors.{past-later, value-later}
+use Rattle.sources.specs.Source.{Source, Earlier, byteIn}
+use Rattle.names.specs.Names.{Draft, draft, typeIn, grown, ended}
+use Rattle.moving.specs.Moves.{past, valuePast}
+use Rattle.moving.proofs.Moves.{past-later, value-later}
 use Rattle.names.proofs.Frames.{SameFrom}
-use Rattle.reading.specs.Reads.{headPast}
-use Rattle.reading.proofs.Heads.{head-same}
+use Rattle.heads.specs.Heads.{headPast}
+use Rattle.heads.proofs.Heads.{head-same}
 use Rattle.demands.specs.Takes.{from, textTakes, valueTakes, positionTakes, takesFrom, headTakes}
 use Rattle.demands.proofs.Lemmas.Traces.{textStop, Value, string, char, digits, digits0, delta, delta0, match, Trace, last, then}
 
@@ -76,7 +78,7 @@ module _ (s : Source) (p : ℕ) (l : p ≤ 128) (cur : List ℕ) (k : length cur
   value-moves y t c (digits n) = one 7 4 _ (omega arith) (omega arith) refl
   value-moves y t c (digits0 x) =
       let m = one 3 4 _ (omega arith) (omega arith) refl in
-      moves-then m (moves-past _ (spanOf p 4) 1 (omega (arith, m .lengths, span-below p 4 l (omega arith))))
+      moves-then m (moves-past _ (spanOf p dzlenStream) 1 (omega (arith, m .lengths, span-below p dzlenStream l (omega arith))))
   value-moves y t c (delta n) = one 8 1 _ (omega arith) (omega arith) refl
   value-moves y t c (delta0 x) = one 9 1 _ (omega arith) (omega arith) refl
   value-moves y t c (match a b) = moves-none cur
@@ -137,11 +139,11 @@ module _ (s : Source) (k : length (s .cur) ≡ 1290) where
       let m = type-moves s 0 (omega arith) (s .cur) k in
       moves-then m (moves-past _ (spanOf 0 stream) 4 (omega (arith, m .lengths, span-below 0 stream (omega arith) (omega arith))))
 
-  pub name-moves : (e : Earlier) (used : ℕ) (x : Draft) → Trace s e used 1 (draft [] [] 0 (headPast (s .cur) 6)) x
-      → Moves (s .cur) (x .cur) (λ j. headTakes 6 j + takesFrom s 1 (x .count + 1) j)
+  pub name-moves : (e : Earlier) (used : ℕ) (x : Draft) → Trace s e used 1 (draft [] [] 0 (headPast (s .cur) diffStream)) x
+      → Moves (s .cur) (x .cur) (λ j. headTakes diffStream j + takesFrom s 1 (x .count + 1) j)
   name-moves e used x t =
-      let m : Moves (s .cur) (headPast (s .cur) 6) (headTakes 6) = head-moves 6 (omega arith) in
-      let w : Walked s 1 (draft [] [] 0 (headPast (s .cur) 6)) x =
-      walked s e used 1 (draft [] [] 0 (headPast (s .cur) 6)) x t (m .lengths ∙ k) (head-same (s .cur) 6 (omega arith)) in
+      let m : Moves (s .cur) (headPast (s .cur) diffStream) (headTakes diffStream) = head-moves diffStream (omega arith) in
+      let w : Walked s 1 (draft [] [] 0 (headPast (s .cur) diffStream)) x =
+      walked s e used 1 (draft [] [] 0 (headPast (s .cur) diffStream)) x t (m .lengths ∙ k) (head-same (s .cur) diffStream (omega arith)) in
       let q : w .positions ≡ x .count + 1 = omega (arith, w .count) in
       moves-then m (rw q at (w .moves))

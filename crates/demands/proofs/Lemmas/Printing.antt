@@ -12,11 +12,11 @@ use Rattle.base.proofs.Lists.{part-next}
 use Rattle.tokens.specs.Tokens.{bytesOf}
 use Rattle.kept.specs.declared.Row.{Row}
 use Rattle.kept.specs.Tables.{rowAt}
-use Rattle.steps.specs.Source.{earlier}
-use Rattle.steps.proofs.Ways.{repeats-padded, repeats-digits}
-use Rattle.names.specs.Repeats.{Spelt, RowsSpelt}
-use Rattle.names.specs.Runs.{textLength}
-use Rattle.names.proofs.Matches.{textSize, length-size}
+use Rattle.sources.specs.Source.{earlier}
+use Rattle.repeats.proofs.Ways.{repeats-padded, repeats-digits}
+use Rattle.repeating.specs.Repeats.{Spelt, RowsSpelt}
+use Rattle.runs.specs.Runs.{textLength}
+use Rattle.repeating.proofs.Repeating.{textSize, length-size}
 use Rattle.demands.specs.Printing.{rowText, rowPrints, rowsPrint}
 
 -- a row prints its text

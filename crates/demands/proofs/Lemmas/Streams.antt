@@ -7,7 +7,7 @@ use Rattle.spans.specs.declared.NextFour.{NextFour}
 use Rattle.spans.specs.declared.NextFour.the-variants as four
 use Rattle.spans.specs.Spans.{byteAt, fourAt}
 use Rattle.block.specs.Block.{spanOf, cursorOf}
-use Rattle.steps.specs.Source.{Source, byteIn, fourIn}
+use Rattle.sources.specs.Source.{Source, byteIn, fourIn}
 
 pub byte-way : (P : NextByte → Type 0) (s : Source) (p i : ℕ) → ((b : ℕ) → P (byte.Value b (record { 0 = cursorOf (s .cur) (spanOf p i) + 1 }))) → P byte.Short → P (byteIn s p i)
 unfolding byteIn byteAt

@@ -15,6 +15,7 @@ use Rattle.spans.specs.declared.NextText.{NextText}
 use Rattle.spans.specs.declared.NextText.the-variants as text
 use Rattle.spans.specs.Spans.{cursor, textEnd, textAt}
 use Rattle.block.specs.Block.{spanOf, endOf, cursorOf}
+use Rattle.block.specs.Streams.{typeStream, stringStream, charStream, digits0Stream, dzlenStream, digitsStream, ddeltaStream, ddelta0Stream}
 use Rattle.tokens.specs.declared.TokenType.{TokenType}
 use Rattle.tokens.specs.declared.TokenType.the-variants as type
 use Rattle.tokens.specs.declared.Token.{Token}
@@ -22,10 +23,14 @@ use Rattle.tokens.specs.declared.Token.the-variants.{String, Char, Digits, Digi
 use Rattle.tokens.specs.declared.Padded.{Padded}
 use Rattle.tokens.specs.Types.{typeOf}
 use Rattle.tokens.specs.Tokens.{bytesOf}
-use Rattle.steps.specs.declared.Step.{Step}
-use Rattle.steps.specs.declared.Step.the-variants as step
-use Rattle.steps.specs.Source.{Source, Earlier, byteIn, fourIn, textIn}
-use Rattle.steps.specs.Steps.{stringStep, charStep, digitsStep, paddedStep, widthStep, digits0Step, deltaStep, delta0Step, hasRow, hasKind, deltaAt, delta0At, matchAt, valueStep, carries, barred, typedStep, stepAt}
+use Rattle.values.specs.declared.Step.{Step}
+use Rattle.values.specs.declared.Step.the-variants as step
+use Rattle.sources.specs.Source.{Source, Earlier, byteIn, fourIn, textIn}
+use Rattle.values.specs.Values.{stringStep, charStep, digitsStep, withWidth, paddedOf, paddedIn, paddedStep, digits0Step}
+use Rattle.sums.specs.Sums.{deltaStep, delta0Step}
+use Rattle.repeats.specs.Repeats.{hasRow, hasKind, deltaAt, delta0At, matchAt}
+use Rattle.steps.specs.Steps.{valueStep, typedStep, stepAt}
+use Rattle.bars.specs.Bars.{carries, barred}
 use Rattle.names.proofs.Growing.{never-named}
 use Rattle.names.specs.Names.{Draft, draft, Named, named, refused, typeIn, grown, ended, printable, onward, nameFrom, nameOf}
 use Rattle.demands.specs.Refusals.{ByRule}
@@ -33,17 +38,17 @@ use Rattle.demands.proofs.Lemmas.Streams.{byte-way, four-way}
 
 -- where the text at position p ends, and where its span begins and ends
 abbrev pub textStop : Source → ℕ → ℕ
-textStop s p = textEnd (s .bytes) (cursorOf (s .cur) (spanOf p 1)) (endOf (s .dir) (spanOf p 1))
+textStop s p = textEnd (s .bytes) (cursorOf (s .cur) (spanOf p stringStream)) (endOf (s .dir) (spanOf p stringStream))
 
 -- a token of each type, with the cursor past its value
 pub data Value (s : Source) (p : ℕ) : TokenType → Token → Cursor → Type 0 where
-  string : textStop s p < endOf (s .dir) (spanOf p 1)
-      → Value s p type.String (String (record { kept = false; start = cursorOf (s .cur) (spanOf p 1); end = textStop s p })) (cursor (textStop s p + 1))
-  char : (b : ℕ) → Value s p type.Char (Char b) (cursor (cursorOf (s .cur) (spanOf p 2) + 1))
-  digits : (n : ℕ) → Value s p type.Digits (Digits n) (cursor (cursorOf (s .cur) (spanOf p 7) + 4))
-  digits0 : (x : Padded) → Value s p type.Digits0 (Digits0 x) (cursor (cursorOf (s .cur) (spanOf p 3) + 4))
-  delta : (n : ℕ) → Value s p type.Delta (Digits n) (cursor (cursorOf (s .cur) (spanOf p 8) + 1))
-  delta0 : (x : Padded) → Value s p type.Delta0 (Digits0 x) (cursor (cursorOf (s .cur) (spanOf p 9) + 1))
+  string : textStop s p < endOf (s .dir) (spanOf p stringStream)
+      → Value s p type.String (String (record { kept = false; start = cursorOf (s .cur) (spanOf p stringStream); end = textStop s p })) (cursor (textStop s p + 1))
+  char : (b : ℕ) → Value s p type.Char (Char b) (cursor (cursorOf (s .cur) (spanOf p charStream) + 1))
+  digits : (n : ℕ) → Value s p type.Digits (Digits n) (cursor (cursorOf (s .cur) (spanOf p digitsStream) + 4))
+  digits0 : (x : Padded) → Value s p type.Digits0 (Digits0 x) (cursor (cursorOf (s .cur) (spanOf p digits0Stream) + 4))
+  delta : (n : ℕ) → Value s p type.Delta (Digits n) (cursor (cursorOf (s .cur) (spanOf p ddeltaStream) + 1))
+  delta0 : (x : Padded) → Value s p type.Delta0 (Digits0 x) (cursor (cursorOf (s .cur) (spanOf p ddelta0Stream) + 1))
   match : (t : Token) (c : Cursor) → Value s p type.Match t c
 
 -- what can stand at position p
@@ -53,8 +58,8 @@ pub data StepWay (s : Source) (p : ℕ) : Step → Type 0 where
   gives : (y : TokenType) (t : Token) (c : Cursor) → typeIn (byteIn s p 0) ≡ y → (p ≡ 128 → ⊥) → Value s p y t c → StepWay s p (step.Got t c)
 
 text-way : (P : NextText → Type 0) (s : Source) (p : ℕ)
-    → (textStop s p < endOf (s .dir) (spanOf p 1) → P (text.Bytes (cursor (cursorOf (s .cur) (spanOf p 1))) (cursor (textStop s p)) (cursor (textStop s p + 1))))
-    → P text.Unended → P (textIn s p 1)
+    → (textStop s p < endOf (s .dir) (spanOf p stringStream) → P (text.Bytes (cursor (cursorOf (s .cur) (spanOf p stringStream))) (cursor (textStop s p)) (cursor (textStop s p + 1))))
+    → P text.Unended → P (textIn s p stringStream)
 unfolding textIn textAt
 text-way P s p f g = pick-holds P _ _ _ (λ e. f (ltb-true _ _ e)) (λ e. g)
 
@@ -67,32 +72,32 @@ module _ (s : Source) (p : ℕ) (n : p ≡ 128 → ⊥) (y : TokenType) (q : typ
   padded-way m w c v = pick-holds (StepWay s p) (fitsWidth m w) _ _ (λ k. got _ c v) (λ k. halts 6 (omega arith))
 
 module _ (s : Source) (p : ℕ) (n : p ≡ 128 → ⊥) where
-  string-way : typeIn (byteIn s p 0) ≡ type.String → StepWay s p (stringStep (textIn s p 1))
+  string-way : typeIn (byteIn s p typeStream) ≡ type.String → StepWay s p (stringStep (textIn s p stringStream))
   unfolding stringStep
   string-way q = text-way (λ v. StepWay s p (stringStep v)) s p (λ l. got s p n type.String q _ _ (string l)) (halts 2 (omega arith))
 
-  char-way : typeIn (byteIn s p 0) ≡ type.Char → StepWay s p (charStep (byteIn s p 2))
+  char-way : typeIn (byteIn s p typeStream) ≡ type.Char → StepWay s p (charStep (byteIn s p charStream))
   unfolding charStep
   char-way q = byte-way (λ v. StepWay s p (charStep v)) s p 2 (λ b. got s p n type.Char q _ _ (char b)) (halts 2 (omega arith))
 
-  digits-way : typeIn (byteIn s p 0) ≡ type.Digits → StepWay s p (digitsStep (fourIn s p 7))
+  digits-way : typeIn (byteIn s p typeStream) ≡ type.Digits → StepWay s p (digitsStep (fourIn s p digitsStream))
   unfolding digitsStep
   digits-way q = four-way (λ v. StepWay s p (digitsStep v)) s p 7 (λ m. got s p n type.Digits q _ _ (digits m)) (halts 2 (omega arith))
 
-  digits0-way : typeIn (byteIn s p 0) ≡ type.Digits0 → StepWay s p (digits0Step (fourIn s p 3) (byteIn s p 4))
-  unfolding digits0Step widthStep
-  digits0-way q = four-way (λ v. StepWay s p (digits0Step v (byteIn s p 4))) s p 3
-      (λ m. byte-way (λ v. StepWay s p (widthStep m (cursor (cursorOf (s .cur) (spanOf p 3) + 4)) v)) s p 4
+  digits0-way : typeIn (byteIn s p typeStream) ≡ type.Digits0 → StepWay s p (digits0Step (paddedIn s p))
+  unfolding paddedOf withWidth digits0Step
+  digits0-way q = four-way (λ v. StepWay s p (digits0Step (paddedOf v (byteIn s p dzlenStream)))) s p 3
+      (λ m. byte-way (λ v. StepWay s p (digits0Step (withWidth m (cursor (cursorOf (s .cur) (spanOf p digits0Stream) + 4)) v))) s p 4
       (λ w. padded-way s p n type.Digits0 q m w _ (digits0 _)) (halts 2 (omega arith)))
       (halts 2 (omega arith))
 
-  delta-way : typeIn (byteIn s p 0) ≡ type.Delta → (m : ℕ) → StepWay s p (deltaStep m (byteIn s p 8))
+  delta-way : typeIn (byteIn s p typeStream) ≡ type.Delta → (m : ℕ) → StepWay s p (deltaStep m (byteIn s p ddeltaStream))
   unfolding deltaStep
   delta-way q m = byte-way (λ v. StepWay s p (deltaStep m v)) s p 8
       (λ d. pick-holds (StepWay s p) (ltb (m + d) (2 ^ 32)) _ _ (λ k. got s p n type.Delta q _ _ (delta (m + d))) (λ k. halts 6 (omega arith)))
       (halts 2 (omega arith))
 
-  delta0-way : typeIn (byteIn s p 0) ≡ type.Delta0 → (m w : ℕ) → StepWay s p (delta0Step m w (byteIn s p 9))
+  delta0-way : typeIn (byteIn s p typeStream) ≡ type.Delta0 → (m w : ℕ) → StepWay s p (delta0Step m w (byteIn s p ddelta0Stream))
   unfolding delta0Step
   delta0-way q m w = byte-way (λ v. StepWay s p (delta0Step m w v)) s p 9
       (λ d. pick-holds (StepWay s p) (ltb (m + d) (2 ^ 32)) _ _ (λ k. padded-way s p n type.Delta0 q (m + d) w _ (delta0 _)) (λ k. halts 6 (omega arith)))

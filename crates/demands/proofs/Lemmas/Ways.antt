@@ -16,22 +16,31 @@ use Rattle.spans.specs.declared.NextFour.{NextFour}
 use Rattle.spans.specs.declared.NextFour.the-variants as four
 use Rattle.block.specs.Block.{sound, allInside, allAtEnd, starts, state}
 use Rattle.block.proofs.Laws.{judged-open, sound-open}
+use Rattle.block.specs.Streams.{typeStream, dupStream, diffStream}
 use Rattle.kept.specs.Tables.{Kept, keeping}
 use Rattle.kept.specs.Judgement.{counts, earlierFits}
 use Rattle.kept.proofs.Laws.{counted, fresh-counted, earlier}
-use Rattle.steps.specs.Source.{Source, Earlier, source, byteIn, fourIn}
+use Rattle.tokens.specs.Types.{dupNumber, diffNumber}
+use Rattle.sources.specs.Source.{Source, Earlier, source, byteIn, fourIn}
 use Rattle.names.specs.Names.{Draft, Named, named, refused, nameOf}
-use Rattle.reading.specs.declared.Head.{Head}
-use Rattle.reading.specs.declared.Head.the-variants as head
-use Rattle.reading.specs.Reads.{plain, atName, dupFits, diffFits, dupHead, diffHead, typedHead, headOf, roomFor, keepOf, headPast, dupOf, namedOf, diffOf, entryBack, headedOf, nextOf, readOf}
-use Rattle.reading.proofs.Holding.{Holds, next-holds, read-next}
+use Rattle.heads.specs.declared.Head.{Head}
+use Rattle.heads.specs.declared.Head.the-variants as head
+use Rattle.entries.specs.Outcomes.{plain, atName}
+use Rattle.heads.specs.Heads.{dupFits, diffFits, dupHead, diffHead, typedHead, headOf, headPast}
+use Rattle.entries.specs.Entries.{roomFor, keepOf}
+use Rattle.copying.specs.Copies.{dupOf}
+use Rattle.naming.specs.Naming.{namedOf, diffOf}
+use Rattle.earlier.specs.Back.{entryBack}
+use Rattle.inner.specs.Next.{headedOf, nextOf}
+use Rattle.reads.specs.Reads.{readOf}
+use Rattle.reads.proofs.Holding.{Holds, next-holds, read-next}
 use Rattle.demands.specs.Refusals.{Back, Ready, is-dup, is-diff, Heads, Rule2, dup-back, diff-none, diff-back, HeadStop, no-type, no-head, no-distance, off-rule, Leans, on-none, on-earlier, Origin, copied, walked, by-head, by-memory, by-token, by-room, unsound, uncounted, outside, unread, unnamed, ReadCase, refuses, ends, keeps}
 
 -- what position 0 can say of name n
 data HeadCase (s : Source) (n : ℕ) : Head → Type 0 where
   stops : (r : ℕ) → HeadStop s n r → HeadCase s n (head.Refused r)
-  dups : (d : ℕ) → Heads s 5 d → Back n d → HeadCase s n (head.Dup (record { 0 = d }))
-  diffs : (d : ℕ) → Heads s 6 d → Rule2 n 6 d → HeadCase s n (head.Diff (record { 0 = d }))
+  dups : (d : ℕ) → Heads s dupNumber dupStream d → Back n d → HeadCase s n (head.Dup (record { 0 = d }))
+  diffs : (d : ℕ) → Heads s diffNumber diffStream d → Rule2 n diffNumber d → HeadCase s n (head.Diff (record { 0 = d }))
 
 -- a block that has opened is ready to be read, whatever the buffers held
 pub fresh-ready : (bytes dir : List ℕ) (count : ℕ) (old text names rows : List ℕ) → sound (length bytes) dir old ≡ true → count ≤ 65536
@@ -48,41 +57,41 @@ back-of n d e = let h = both-true (leb 1 d) (leb d n) e in (leb-true 1 d (h .0),
 pub of-back : (n d : ℕ) → Back n d → both (leb 1 d) (leb d n) ≡ true
 of-back n d b = both-of (le-leb 1 d (b .0)) (le-leb d n (b .1))
 
-rule-dup : (n d : ℕ) → Rule2 n 5 d → Back n d
+rule-dup : (n d : ℕ) → Rule2 n dupNumber d → Back n d
 rule-dup n d (dup-back x b) = b
 
-pub rule-diff : (n d : ℕ) → Rule2 n 6 d → diffFits d n ≡ true
+pub rule-diff : (n d : ℕ) → Rule2 n diffNumber d → diffFits d n ≡ true
 rule-diff n d (diff-none z) = pick-true _ _ (eq-eqb n 0 z)
 rule-diff n d (diff-back x b) = pick-false _ _ (ne-eqb n 0 (λ z. omega (arith, b .0, b .1))) ∙ of-back n d b
 
-pub diff-rule : (n d : ℕ) → diffFits d n ≡ true → Rule2 n 6 d
+pub diff-rule : (n d : ℕ) → diffFits d n ≡ true → Rule2 n diffNumber d
 diff-rule n d e =
     by-test (eqb n 0)
-    (λ z. subst (Rule2 n 6) (sym (eqb-true d 0 (sym (pick-true (eqb d 0) (both (leb 1 d) (leb d n)) z) ∙ e))) (diff-none (eqb-true n 0 z)))
+    (λ z. subst (Rule2 n diffNumber) (sym (eqb-true d 0 (sym (pick-true (eqb d 0) (both (leb 1 d) (leb d n)) z) ∙ e))) (diff-none (eqb-true n 0 z)))
     (λ z. diff-back d (back-of n d (sym (pick-false (eqb d 0) (both (leb 1 d) (leb d n)) z) ∙ e)))
 
 module _ (s : Source) (n : ℕ) where
-  dup-case : (c : Cursor) → byteIn s 0 0 ≡ byte.Value 5 c → (f : NextFour) → fourIn s 0 5 ≡ f → HeadCase s n (dupHead n f)
+  dup-case : (c : Cursor) → byteIn s 0 typeStream ≡ byte.Value dupNumber c → (f : NextFour) → fourIn s 0 dupStream ≡ f → HeadCase s n (dupHead n f)
   unfolding dupHead
   dup-case c t (four.Value d k) f =
-      let h : Heads s 5 d = record { past = c; behind = k; type = t; distance = f } in
-      pick-holds (HeadCase s n) (dupFits d n) _ _ (λ e. dups d h (back-of n d e)) (λ e. stops 4 (off-rule 5 d h is-dup (λ r. never (sym e ∙ of-back n d (rule-dup n d r)))))
-  dup-case c t four.Short f = stops 2 (no-distance 5 c t is-dup f)
+      let h : Heads s dupNumber dupStream d = record { past = c; behind = k; type = t; distance = f } in
+      pick-holds (HeadCase s n) (dupFits d n) _ _ (λ e. dups d h (back-of n d e)) (λ e. stops 4 (off-rule dupNumber dupStream d h is-dup (λ r. never (sym e ∙ of-back n d (rule-dup n d r)))))
+  dup-case c t four.Short f = stops 2 (no-distance dupNumber dupStream c t is-dup f)
 
-  diff-case : (c : Cursor) → byteIn s 0 0 ≡ byte.Value 6 c → (f : NextFour) → fourIn s 0 6 ≡ f → HeadCase s n (diffHead n f)
+  diff-case : (c : Cursor) → byteIn s 0 typeStream ≡ byte.Value diffNumber c → (f : NextFour) → fourIn s 0 diffStream ≡ f → HeadCase s n (diffHead n f)
   unfolding diffHead
   diff-case c t (four.Value d k) f =
-      let h : Heads s 6 d = record { past = c; behind = k; type = t; distance = f } in
-      pick-holds (HeadCase s n) (diffFits d n) _ _ (λ e. diffs d h (diff-rule n d e)) (λ e. stops 4 (off-rule 6 d h is-diff (λ r. never (sym e ∙ rule-diff n d r))))
-  diff-case c t four.Short f = stops 2 (no-distance 6 c t is-diff f)
+      let h : Heads s diffNumber diffStream d = record { past = c; behind = k; type = t; distance = f } in
+      pick-holds (HeadCase s n) (diffFits d n) _ _ (λ e. diffs d h (diff-rule n d e)) (λ e. stops 4 (off-rule diffNumber diffStream d h is-diff (λ r. never (sym e ∙ rule-diff n d r))))
+  diff-case c t four.Short f = stops 2 (no-distance diffNumber diffStream c t is-diff f)
 
   type-case : (b : NextByte) → byteIn s 0 0 ≡ b → HeadCase s n (typedHead s n b)
   unfolding typedHead
   type-case (byte.Value t c) f =
       let at : (v : ℕ) → t ≡ v → byteIn s 0 0 ≡ byte.Value v c = λ v e. subst (λ (w : ℕ). byteIn s 0 0 ≡ byte.Value w c) e f in
-      pick-holds (HeadCase s n) (eqb t 5) _ _ (λ e. dup-case c (at 5 (eqb-true t 5 e)) _ refl)
-      (λ e. pick-holds (HeadCase s n) (eqb t 6) _ _ (λ g. diff-case c (at 6 (eqb-true t 6 g)) _ refl)
-      (λ g. stops 3 (no-head t c f (eqb-false t 5 e) (eqb-false t 6 g))))
+      pick-holds (HeadCase s n) (eqb t dupNumber) _ _ (λ e. dup-case c (at dupNumber (eqb-true t dupNumber e)) _ refl)
+      (λ e. pick-holds (HeadCase s n) (eqb t diffNumber) _ _ (λ g. diff-case c (at diffNumber (eqb-true t diffNumber g)) _ refl)
+      (λ g. stops 3 (no-head t c f (eqb-false t dupNumber e) (eqb-false t diffNumber g))))
   type-case byte.Short f = stops 2 (no-type f)
 
   head-case : HeadCase s n (headOf s n)
@@ -95,7 +104,7 @@ module _ (s : Source) (m : Kept) (r : Ready s m) (more : m .state .names ≡ m .
   keep-case x first rows d o =
       pick-holds (ReadCase s m) (roomFor m x) _ _ (λ e. keeps x first rows d r more o e) (λ e. refuses _ (unnamed 9 r more (by-room x first rows d o e)))
 
-  named-case : (d : ℕ) (e : Earlier) → Leans s m d e → (a : Named) → nameOf s e (m .state .text) (headPast (s .cur) 6) ≡ a → ReadCase s m (namedOf s m d a)
+  named-case : (d : ℕ) (e : Earlier) → Leans s m d e → (a : Named) → nameOf s e (m .state .text) (headPast (s .cur) diffStream) ≡ a → ReadCase s m (namedOf s m d a)
   unfolding namedOf atName
   named-case d e l (named x) q = keep-case x _ _ d (walked x d e l q)
   named-case d e l (refused n) q = refuses _ (unnamed n r more (by-token n d e l q))
@@ -104,20 +113,20 @@ module _ (s : Source) (m : Kept) (r : Ready s m) (more : m .state .names ≡ m .
   unfolding diffOf
   walk-case d e l = named-case d e l _ refl
 
-  rule-case : (d : ℕ) → Heads s 6 d → Rule2 (m .state .names) 6 d → ReadCase s m (headedOf s m (head.Diff (record { 0 = d })))
+  rule-case : (d : ℕ) → Heads s diffNumber diffStream d → Rule2 (m .state .names) diffNumber d → ReadCase s m (headedOf s m (head.Diff (record { 0 = d })))
   unfolding headedOf atName entryBack
   rule-case d h (diff-none z) = pick-holds (ReadCase s m) (eqb 0 0) _ _ (λ e. walk-case 0 _ (on-none h z)) (λ e. absurd (eqb-false 0 0 e refl))
   rule-case d h (diff-back x b) =
       pick-holds (ReadCase s m) (eqb d 0) _ _ (λ e. absurd (let z : d ≡ 0 = eqb-true d 0 e in omega arith))
       (λ e. pick-holds (ReadCase s m) (earlierFits m (m .state .names - d)) _ _
-      (λ f. walk-case d _ (on-earlier d h b (earlier m _ f))) (λ f. refuses _ (unnamed 13 r more (by-memory 6 d h is-diff b f))))
+      (λ f. walk-case d _ (on-earlier d h b (earlier m _ f))) (λ f. refuses _ (unnamed 13 r more (by-memory diffNumber diffStream d h is-diff b f))))
 
   headed-case : (a : Head) → HeadCase s (m .state .names) a → ReadCase s m (headedOf s m a)
   unfolding headedOf atName dupOf entryBack
   headed-case a (stops n q) = refuses _ (unnamed n r more (by-head n q))
   headed-case a (dups d h b) =
       pick-holds (ReadCase s m) (earlierFits m (m .state .names - d)) _ _
-      (λ f. keep-case _ _ _ d (copied d h b (earlier m _ f))) (λ f. refuses _ (unnamed 13 r more (by-memory 5 d h is-dup b f)))
+      (λ f. keep-case _ _ _ d (copied d h b (earlier m _ f))) (λ f. refuses _ (unnamed 13 r more (by-memory dupNumber dupStream d h is-dup b f)))
   headed-case a (diffs d h b) = rule-case d h b
 
 next-case : (s : Source) (m : Kept) → Ready s m → ReadCase s m (nextOf s m)

@@ -5,8 +5,8 @@ use mathlib.Core.Path.{refl}
 use native.Mathlib.Omega.{arith}
 use borrow.Author.Tests.{le-leb, lt-leb}
 use borrow.Author.Needs.{needs}
-use Rattle.lines.specs.Listing.{listedOf}
-use Rattle.lines.proofs.Bounds.{listed-short}
+use Rattle.listed.specs.Listing.{listedOf}
+use Rattle.listed.proofs.Bounds.{listed-short}
 use Rattle.leaves.proofs.Laws.{stands, may-not}
 use Rattle.leaves.proofs.leaf_list.Statement.{statement}
 use Rattle.leaves.proofs.leaf_list.Tie as tie

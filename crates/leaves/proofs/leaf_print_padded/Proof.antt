@@ -2,11 +2,10 @@ use Prim.Native.Nat.{_+_, _≤_}
 use denote.Ref.{now}
 use lib.ListN.{length}
 use borrow.Author.Tests.{leb-true, le-leb, lt-leb, not-true, not-false}
-use Rattle.base.proofs.Choice.{both-of, both-left, both-right}
+use Rattle.base.proofs.Choice.{both-of, both-left, both-right, left}
 use Rattle.digits.proofs.Laws.{length-padded}
 use Rattle.leaves.proofs.Laws.{stands, no-room, may-not}
 use mathlib.Core.Path.{sym, _∙_}
-use Rattle.base.proofs.Choice.{left}
 use borrow.Author.Needs.{needs}
 use Rattle.leaves.proofs.leaf_print_padded.Statement.{statement}
 use Rattle.leaves.proofs.leaf_print_padded.Tie as tie

@@ -1,4 +1,4 @@
-use Rattle.lines.proofs.Bounds.{listed-short}
+use Rattle.listed.proofs.Bounds.{listed-short}
 use Prim.Native.Nat.{ℕ, _≤_}
 use mathlib.Core.Path.{sym, subst}
 use lib.Seq.{length-take-le}

@@ -6,6 +6,9 @@ use borrow.Author.Needs.{needs}
 use Rattle.reading.proofs.read.Statement.{statement}
 use Rattle.reading.proofs.read.Tie as tie
 
+abbrev to-start : tie.After-enum-told3 → tie.Start
+to-start s = search
+
 judge-requires : tie.Need-judge-requires
 judge-requires c κs = search needs
 
@@ -29,9 +32,10 @@ counts-requires c κs = search needs
 
 reads-requires : tie.Need-reads-requires
 reads-requires c κs =
-    let f = c .before .before .before .before in
-    let j = f .before .before .before .before .before in
-    let a = j .before .before .before .before .before .before .before .before .before .before .args in
+    let f : tie.Then1 = search in
+    let j : tie.After-enum-told3 = search in
+    let at-start : tie.Start = search in
+    let a = at-start .args in
     let v = sym (j .before .before .judge .ensures) ∙ j .enum-told3 .given .1 in
     let q = read-judged (now (a .bytes)) (now (a .dir)) (now (a .cursors)) (now (a .text)) (now (a .entries)) (now (a .rows)) (a .state) v (sym (f .before .counts .ensures) ∙ f .if1 .taken) in
     (q .0, (q .1, unknown _ (search needs)))
@@ -44,8 +48,9 @@ same-length c = search needs
 
 returns : tie.Need-returns
 returns c =
-    let j = c .before in
-    let a = j .before .before .before .before .before .before .before .before .before .before .args in
+    let j : tie.After-enum-told = search in
+    let at-start : tie.Start = search in
+    let a = at-start .args in
     read-unsound (now (a .bytes)) (now (a .dir)) (now (a .cursors)) (now (a .text)) (now (a .entries)) (now (a .rows)) (a .state) (sym (j .before .before .judge .ensures) ∙ j .enum-told .given .1) (c .refuse-plain .ensures)
 
 same-length-2 : tie.Need-same-length-2
@@ -53,8 +58,9 @@ same-length-2 c = search needs
 
 returns-2 : tie.Need-returns-2
 returns-2 c =
-    let j = c .before in
-    let a = j .before .before .before .before .before .before .before .before .before .before .args in
+    let j : tie.After-enum-told2 = search in
+    let at-start : tie.Start = search in
+    let a = at-start .args in
     read-outside (now (a .bytes)) (now (a .dir)) (now (a .cursors)) (now (a .text)) (now (a .entries)) (now (a .rows)) (a .state) (sym (j .before .before .judge .ensures) ∙ j .enum-told2 .given .1) (c .refuse-plain2 .ensures)
 
 same-length-3 : tie.Need-same-length-3
@@ -71,11 +77,13 @@ same-length-6 c = search needs
 
 returns-3 : tie.Need-returns-3
 returns-3 c =
-    let f = c .before .before .before .before .before .before .before .before .before .before .before .before .before in
-    let j = f .before .before .before .before .before in
-    let a = j .before .before .before .before .before .before .before .before .before .before .args in
+    let at-reads : tie.After-reads = search in
+    let f : tie.Then1 = search in
+    let j : tie.After-enum-told3 = search in
+    let at-start = to-start j in
+    let a = at-start .args in
     let v = sym (j .before .before .judge .ensures) ∙ j .enum-told3 .given .1 in
-    read-is (now (a .bytes)) (now (a .dir)) (now (a .cursors)) (now (a .text)) (now (a .entries)) (now (a .rows)) (a .state) v (sym (f .before .counts .ensures) ∙ f .if1 .taken) (c .before .before .before .before .before .before .before .before .reads .ensures ∙ pick-false _ _ refl)
+    read-is (now (a .bytes)) (now (a .dir)) (now (a .cursors)) (now (a .text)) (now (a .entries)) (now (a .rows)) (a .state) v (sym (f .before .counts .ensures) ∙ f .if1 .taken) (at-reads .reads .ensures ∙ pick-false _ _ refl)
 
 same-length-7 : tie.Need-same-length-7
 same-length-7 c = search needs
@@ -91,9 +99,10 @@ same-length-10 c = search needs
 
 returns-4 : tie.Need-returns-4
 returns-4 c =
-    let f = c .before in
-    let j = f .before .before .before .before .before in
-    let a = j .before .before .before .before .before .before .before .before .before .before .args in
+    let f : tie.Else1 = search in
+    let j : tie.After-enum-told3 = search in
+    let at-start : tie.Start = search in
+    let a = at-start .args in
     let v = sym (j .before .before .judge .ensures) ∙ j .enum-told3 .given .1 in
     read-miscounted (now (a .bytes)) (now (a .dir)) (now (a .cursors)) (now (a .text)) (now (a .entries)) (now (a .rows)) (a .state) v (sym (f .before .counts .ensures) ∙ f .if1 .left) (c .refuse-plain3 .ensures)
 

@@ -14,8 +14,11 @@ enum-known-start c = search needs
 
 reads-requires : tie.Need-reads-requires
 reads-requires c κs =
-    let z = c .before .before .before .before .before .before .before .before .before .before .before .before .before .before .before .before .before in let a = z .args in
-    block-starts (now (a .bytes)) (now (a .dir)) (now (a .cursors)) (now (a .text)) (now (a .entries)) (now (a .rows)) (a .state) (a .count) (c .before .before .before .before .before .before .before .before .before .«open» .ensures) (c .before .before .before .before .before .start .given .1)
+    let at-start : tie.After-start = search in
+    let at-open : tie.After-open = search in
+    let z : tie.Start = search in
+    let a = z .args in
+    block-starts (now (a .bytes)) (now (a .dir)) (now (a .cursors)) (now (a .text)) (now (a .entries)) (now (a .rows)) (a .state) (a .count) (at-open .«open» .ensures) (at-start .start .given .1)
 
 enum-known-r : tie.Need-enum-known-r
 enum-known-r c = search needs
@@ -34,16 +37,22 @@ same-length-4 c = search needs
 
 returns : tie.Need-returns
 returns c =
-    let z = c .before .before .before .before .before .before .before .before .before .before .before .before .before .before .before .before .before .before .before .before .before .before .before .before .before .before in let a = z .args in
-    block-is (now (a .bytes)) (now (a .dir)) (now (a .cursors)) (now (a .text)) (now (a .entries)) (now (a .rows)) (a .state) (a .count) (c .before .before .before .before .before .before .before .before .before .before .before .before .before .before .before .before .before .before .«open» .ensures) (c .before .before .before .before .before .before .before .before .before .before .before .before .before .before .start .given .1) (c .before .before .before .before .before .before .before .before .reads .ensures ∙ pick-true _ _ refl)
+    let at-reads : tie.After-reads = search in
+    let at-start : tie.After-start = search in
+    let at-open : tie.After-open = search in
+    let z : tie.Start = search in
+    let a = z .args in
+    block-is (now (a .bytes)) (now (a .dir)) (now (a .cursors)) (now (a .text)) (now (a .entries)) (now (a .rows)) (a .state) (a .count) (at-open .«open» .ensures) (at-start .start .given .1) (at-reads .reads .ensures ∙ pick-true _ _ refl)
 
 same-length-5 : tie.Need-same-length-5
 same-length-5 c = search needs
 
 returns-2 : tie.Need-returns-2
 returns-2 c =
-    let z = c .before .before .before .before .before .before .before .before .before .before .before .before .before in let a = z .args in
-    block-refused (now (a .bytes)) (now (a .dir)) (now (a .cursors)) (now (a .text)) (now (a .entries)) (now (a .rows)) (a .state) (a .count) (c .before .before .before .before .before .«open» .ensures) (c .before .r .given .1)
+    let at-open : tie.After-open = search in
+    let z : tie.Start = search in
+    let a = z .args in
+    block-refused (now (a .bytes)) (now (a .dir)) (now (a .cursors)) (now (a .text)) (now (a .entries)) (now (a .rows)) (a .state) (a .count) (at-open .«open» .ensures) (c .before .r .given .1)
 
 pub read-block-spec : {M : Type 1} → statement M
 read-block-spec =

@@ -31,16 +31,21 @@ digits-limit-requires c κs = search needs
 
 number-run-requires : tie.Need-number-run-requires
 number-run-requires c κs =
-    let s = c .before .before .before .before .before .before .before .before in
-    let r = limit-digits (now (s .args .name)) (s .args .at) (c .before .before .before .before .before .before .if1 .left) (sym (c .before .before .run-class .ensures) ∙ c .before .if3 .taken) in
+    let at-else1 : tie.Else1 = search in
+    let s : tie.Start = search in
+    let r = limit-digits (now (s .args .name)) (s .args .at) (at-else1 .if1 .left) (sym (c .before .before .run-class .ensures) ∙ c .before .if3 .taken) in
     (s .pre, rw (c .digits-limit .ensures) (omega arith))
 
 returns-3 : tie.Need-returns-3
 unfolding cutOf
 returns-3 c =
-    let a = c .before .before .before .before .before .before .before .before .before .args in
-    took _ _ (lt-ltb _ _ (c .before .before .before .before .before .before .before .if1 .left)) (left _ _ (ne-eqb _ _ (c .before .before .before .before .before .if2 .left))
-    (took _ _ (eq-eqb _ _ (sym (c .before .before .before .run-class .ensures) ∙ c .before .before .if3 .taken))
+    let at-run-class : tie.After-run-class = search in
+    let at-else2 : tie.Else2 = search in
+    let at-else1 : tie.Else1 = search in
+    let at-start : tie.Start = search in
+    let a = at-start .args in
+    took _ _ (lt-ltb _ _ (at-else1 .if1 .left)) (left _ _ (ne-eqb _ _ (at-else2 .if2 .left))
+    (took _ _ (eq-eqb _ _ (sym (at-run-class .run-class .ensures) ∙ c .before .before .if3 .taken))
     (c .number-run .ensures ∙ ap (λ (to : ℕ). numberRun (now (a .name)) (a .at) (to - a .at)) (c .before .digits-limit .ensures))))
 
 add-run-end : tie.Need-add-run-end
@@ -52,11 +57,14 @@ run-end-requires c κs = search needs
 returns-4 : tie.Need-returns-4
 unfolding cutOf
 returns-4 c =
-    let a = c .before .before .before .before .before .before .before .before .args in
-    let h = c .before .before .before .before .before .before .if1 .left in
+    let at-else2 : tie.Else2 = search in
+    let at-else1 : tie.Else1 = search in
+    let at-start : tie.Start = search in
+    let a = at-start .args in
+    let h = at-else1 .if1 .left in
     let f : runClass (getD (now (a .name)) (a .at) 0) ≡ 1 → ⊥ = λ e. c .before .if3 .left (c .before .before .run-class .ensures ∙ e) in
     let plain : ℕ → Cut = λ e. record { end = e; number = 0 } in
-    took _ _ (lt-ltb _ _ h) (left _ _ (ne-eqb _ _ (c .before .before .before .before .if2 .left)) (left _ _ (ne-eqb _ _ f)
+    took _ _ (lt-ltb _ _ h) (left _ _ (ne-eqb _ _ (at-else2 .if2 .left)) (left _ _ (ne-eqb _ _ f)
     (ap plain (run-goes (now (a .name)) (a .at) h (other-run _ f) (sym (limit-other (now (a .name)) (a .at) h f)) (c .run-end .ensures)))))
 
 pub cut-at-spec : {M : Type 1} → statement M

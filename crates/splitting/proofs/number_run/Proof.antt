@@ -20,36 +20,43 @@ shared-slice-read-b : tie.Need-shared-slice-read-b Inv-loop μ-loop
 shared-slice-read-b c = search needs
 
 run-class-requires : tie.Need-run-class-requires Inv-loop μ-loop
-run-class-requires c κs = c .before .before .before .before .pre .0
+run-class-requires c κs =
+    let at-start : tie.Start Inv-loop μ-loop = search in
+    at-start .pre .0
 
 returns : tie.Need-returns Inv-loop μ-loop
 returns c =
-    let l = c .before .before .before .before .loop in
-    let a = c .before .before .before .before .before .before .args in
+    let at-loop : tie.At-loop Inv-loop μ-loop = search in
+    let l = at-loop .loop in
+    let a = at-loop .before .before .args in
     said-here (now (a .name)) (a .at) (a .to) (l .n) (l .i) (l .inv) (omega arith) (omega arith) (λ e. c .if1 .taken (c .before .run-class .ensures ∙ e))
 
 mul-n : tie.Need-mul-n Inv-loop μ-loop
 mul-n c =
-    let l = c .before .before .before .before .loop in
-    let a = c .before .before .before .before .before .before .args in
+    let at-loop : tie.At-loop Inv-loop μ-loop = search in
+    let l = at-loop .loop in
+    let a = at-loop .before .before .args in
     omega (arith, said-small (now (a .name)) (a .at) (a .to) (l .n) (l .i) (l .inv) (omega arith) (omega arith) (omega arith))
 
 cast-n : tie.Need-cast-n Inv-loop μ-loop
 cast-n c =
-    let l = c .before .before .before .before .loop in
-    let a = c .before .before .before .before .before .before .args in
+    let at-loop : tie.At-loop Inv-loop μ-loop = search in
+    let l = at-loop .loop in
+    let a = at-loop .before .before .args in
     omega (arith, said-digit (now (a .name)) (a .at) (a .to) (l .n) (l .i) (l .inv) (omega arith) (omega arith) (sym (c .before .run-class .ensures) ∙ c .if1 .left))
 
 sub-n : tie.Need-sub-n Inv-loop μ-loop
 sub-n c =
-    let l = c .before .before .before .before .loop in
-    let a = c .before .before .before .before .before .before .args in
+    let at-loop : tie.At-loop Inv-loop μ-loop = search in
+    let l = at-loop .loop in
+    let a = at-loop .before .before .args in
     said-digit (now (a .name)) (a .at) (a .to) (l .n) (l .i) (l .inv) (omega arith) (omega arith) (sym (c .before .run-class .ensures) ∙ c .if1 .left) .0
 
 add-n : tie.Need-add-n Inv-loop μ-loop
 add-n c =
-    let l = c .before .before .before .before .loop in
-    let a = c .before .before .before .before .before .before .args in
+    let at-loop : tie.At-loop Inv-loop μ-loop = search in
+    let l = at-loop .loop in
+    let a = at-loop .before .before .args in
     omega (arith, said-digit (now (a .name)) (a .at) (a .to) (l .n) (l .i) (l .inv) (omega arith) (omega arith) (sym (c .before .run-class .ensures) ∙ c .if1 .left), said-small (now (a .name)) (a .at) (a .to) (l .n) (l .i) (l .inv) (omega arith) (omega arith) (omega arith))
 
 add-i : tie.Need-add-i Inv-loop μ-loop
@@ -60,14 +67,16 @@ loop-less c = search needs
 
 loop-again : tie.Need-loop-again Inv-loop μ-loop
 loop-again c =
-    let l = c .before .before .before .before .loop in
-    let a = c .before .before .before .before .before .before .args in
+    let at-loop : tie.At-loop Inv-loop μ-loop = search in
+    let l = at-loop .loop in
+    let a = at-loop .before .before .args in
     said-more (now (a .name)) (a .at) (a .to) (l .n) (l .i) (l .inv) (omega arith) (omega arith) (sym (c .before .run-class .ensures) ∙ c .if1 .left)
 
 returns-2 : tie.Need-returns-2 Inv-loop μ-loop
 returns-2 c =
+    let at-start : tie.Start Inv-loop μ-loop = search in
     let l = c .before .loop in
-    let a = c .before .before .before .args in
+    let a = at-start .args in
     said-out (now (a .name)) (a .at) (a .to) (l .n) (l .i) (l .inv) (omega arith) (omega arith)
 
 pub number-run-spec : {M : Type 1} → statement M

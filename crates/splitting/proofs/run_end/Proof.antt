@@ -22,12 +22,15 @@ shared-slice-read-run-class : tie.Need-shared-slice-read-run-class Inv-loop μ-l
 shared-slice-read-run-class c = search needs
 
 run-class-requires : tie.Need-run-class-requires Inv-loop μ-loop
-run-class-requires c κs = c .before .before .before .before .pre .0
+run-class-requires c κs =
+    let at-start : tie.Start Inv-loop μ-loop = search in
+    at-start .pre .0
 
 returns : tie.Need-returns Inv-loop μ-loop
 returns c =
-    let l = c .before .before .before .before .loop in
-    let a = c .before .before .before .before .before .before .args in
+    let at-loop : tie.At-loop Inv-loop μ-loop = search in
+    let l = at-loop .loop in
+    let a = at-loop .before .before .args in
     sym (run-here (now (a .name)) 0 (l .i) (length (now (a .name))) (omega arith) (λ e. c .if1 .taken (c .before .run-class .ensures ∙ e))) ∙ l .inv .1 .1
 
 add-i : tie.Need-add-i Inv-loop μ-loop
@@ -38,14 +41,16 @@ loop-less c = search needs
 
 loop-again : tie.Need-loop-again Inv-loop μ-loop
 loop-again c =
-    let l = c .before .before .before .before .loop in
-    let a = c .before .before .before .before .before .before .args in
+    let at-loop : tie.At-loop Inv-loop μ-loop = search in
+    let l = at-loop .loop in
+    let a = at-loop .before .before .args in
     (search needs, (search needs, run-next (now (a .name)) 0 (l .i) (length (now (a .name))) (omega arith) (sym (c .before .run-class .ensures) ∙ c .if1 .left) ∙ l .inv .1 .1))
 
 returns-2 : tie.Need-returns-2 Inv-loop μ-loop
 returns-2 c =
+    let at-start : tie.Start Inv-loop μ-loop = search in
     let l = c .before .loop in
-    let a = c .before .before .before .args in
+    let a = at-start .args in
     sym (run-out (now (a .name)) 0 (l .i) (length (now (a .name))) (omega arith)) ∙ l .inv .1 .1
 
 pub run-end-spec : {M : Type 1} → statement M

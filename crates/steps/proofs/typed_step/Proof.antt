@@ -1,5 +1,5 @@
 use denote.Ref.{now}
-use Rattle.steps.specs.Source.{source, earlier}
+use Rattle.sources.specs.Source.{source, earlier}
 use mathlib.Core.Path.{sym, _∙_}
 use Rattle.steps.proofs.Ways.{typed-barred, typed-value}
 use Rattle.steps.specs.Steps.{typedStep}
@@ -29,8 +29,9 @@ returns c =
 
 returns-2 : tie.Need-returns-2
 returns-2 c =
-    let t = c .before .before .before in
-    let a = t .before .before .before .before .before .before .before .before .before .args in
+    let t : tie.After-type-of = search in
+    let at-start : tie.Start = search in
+    let a = at-start .args in
     let s = source (now (a .bytes)) (now (a .dir)) (now (a .cursors)) in
     let e = earlier (now (a .text)) (now (a .rows)) (a .first) (a .count) in
     rw (t .before .before .found .given .1)

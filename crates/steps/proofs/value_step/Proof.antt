@@ -79,11 +79,15 @@ returns-4 c = rw (c .before .enum-told4 .given .1) (c .digits0-at .ensures)
 
 returns-5 : tie.Need-returns-5
 unfolding valueStep
-returns-5 c = rw (c .before .enum-told5 .given .1) (c .delta-at .ensures (now (c .before .before .before .before .before .before .before .before .args .text)))
+returns-5 c =
+    let at-start : tie.Start = search in
+    rw (c .before .enum-told5 .given .1) (c .delta-at .ensures (now (at-start .args .text)))
 
 returns-6 : tie.Need-returns-6
 unfolding valueStep
-returns-6 c = rw (c .before .enum-told6 .given .1) (c .delta0-at .ensures (now (c .before .before .before .before .before .before .before .before .args .text)))
+returns-6 c =
+    let at-start : tie.Start = search in
+    rw (c .before .enum-told6 .given .1) (c .delta0-at .ensures (now (at-start .args .text)))
 
 returns-7 : tie.Need-returns-7
 unfolding valueStep

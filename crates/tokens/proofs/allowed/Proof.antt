@@ -10,7 +10,7 @@ enum-known-t c = search needs
 
 text-allowed-requires : tie.Need-text-allowed-requires
 text-allowed-requires c κs =
-    let s = c .before .before .before .before .before in
+    let s : tie.Start = search in
     rw (c .before .t .given .1) at (s .pre)
 
 enum-known-t-2 : tie.Need-enum-known-t-2

@@ -11,13 +11,13 @@ cast-to c = search needs
 
 copy-within-requires : tie.Need-copy-within-requires
 copy-within-requires c κs =
-    let s = c .before .before .before .before .before .before in
+    let s : tie.Start = search in
     (s .pre .0 .0, (s .pre .1 .0 (c .before .if1 .taken), s .pre .1 .1))
 
 copy-at-requires : tie.Need-copy-at-requires
 unfolding pick
 copy-at-requires c κs =
-    let s = c .before .before .before .before .before .before in
+    let s : tie.Start = search in
     (s .pre .0 .0, (rw (c .before .if1 .left) at (s .pre .0 .1), s .pre .1 .1))
 
 same-length : tie.Need-same-length
@@ -25,14 +25,18 @@ same-length c = search needs
 
 returns : tie.Need-returns
 unfolding pick
-returns c = rw (c .before .before .before .before .if1 .taken) (c .before .before .copy-within .ensures)
+returns c =
+    let at-then1 : tie.Then1 = search in
+    rw (at-then1 .if1 .taken) (c .before .before .copy-within .ensures)
 
 same-length-2 : tie.Need-same-length-2
 same-length-2 c = search needs
 
 returns-2 : tie.Need-returns-2
 unfolding pick
-returns-2 c = rw (c .before .before .before .before .if1 .left) (c .before .before .copy-at .ensures)
+returns-2 c =
+    let at-else1 : tie.Else1 = search in
+    rw (at-else1 .if1 .left) (c .before .before .copy-at .ensures)
 
 pub put-text-spec : {M : Type 1} → statement M
 put-text-spec =

@@ -13,14 +13,14 @@ cast-to c = search needs
 all-allowed-requires : tie.Need-all-allowed-requires
 unfolding pick
 all-allowed-requires c κs =
-    let s = c .before .before .before .before .before in
+    let s : tie.Start = search in
     let e = rw (c .if1 .taken) at (s .pre .1) in
     omega arith
 
 all-allowed-requires-2 : tie.Need-all-allowed-requires-2
 unfolding pick
 all-allowed-requires-2 c κs =
-    let s = c .before .before .before .before .before in
+    let s : tie.Start = search in
     let e = rw (c .if1 .left) at (s .pre .1) in
     omega arith
 

@@ -17,16 +17,18 @@ same-length-2 c = search needs
 
 returns : tie.Need-returns
 returns c =
-    let s = c .before .before .before .before .before .before .before .before .before .before .before in
+    let at-fits2 : tie.After-fits2 = search in
+    let s : tie.Start = search in
     let a = s .args in
-    let e = c .before .before .before .before .before .fits2 .ensures in
+    let e = at-fits2 .fits2 .ensures in
     no-room (now (a .input)) (now (a .directory)) (now (a .bytes)) (s .pre .1 .0) (e .0) (e .1 .0) (e .1 .1) (not-true _ (c .if1 .taken))
 
 fill-requires : tie.Need-fill-requires
 fill-requires c κs =
-    let s = c .before .before .before .before .before .before .before .before .before .before .before .before .before in
+    let at-fits2 : tie.After-fits2 = search in
+    let s : tie.Start = search in
     let a = s .args in
-    let e = c .before .before .before .before .before .before .before .fits2 .ensures in
+    let e = at-fits2 .fits2 .ensures in
     (s .pre .0, (still-ready (now (a .input)) (now (a .directory)) (now (a .bytes)) (s .pre .1 .0) (e .0) (e .1 .0) (e .1 .1), room (now (a .input)) (now (a .directory)) (now (a .bytes)) (s .pre .1 .0) (e .0) (e .1 .0) (e .1 .1) (not-false _ (c .before .before .if1 .left))))
 
 same-length-3 : tie.Need-same-length-3
@@ -37,11 +39,14 @@ same-length-4 c = search needs
 
 returns-2 : tie.Need-returns-2
 returns-2 c =
-    let s = c .before .before .before .before .before .before .before .before .before .before .before .before .before .before .before .before .before .before in
+    let at-fill : tie.After-fill = search in
+    let at-else1 : tie.Else1 = search in
+    let at-fits2 : tie.After-fits2 = search in
+    let s : tie.Start = search in
     let a = s .args in
-    let e = c .before .before .before .before .before .before .before .before .before .before .before .before .fits2 .ensures in
-    let f = c .before .before .before .before .fill .ensures in
-    done (now (a .input)) (now (a .directory)) (now (a .bytes)) (s .pre .1 .0) (e .0) (e .1 .0) (e .1 .1) (s .pre .1 .1) (not-false _ (c .before .before .before .before .before .before .before .if1 .left)) (omega (arith, f .0)) (f .1 .0) (f .1 .1)
+    let e = at-fits2 .fits2 .ensures in
+    let f = at-fill .fill .ensures in
+    done (now (a .input)) (now (a .directory)) (now (a .bytes)) (s .pre .1 .0) (e .0) (e .1 .0) (e .1 .1) (s .pre .1 .1) (not-false _ (at-else1 .if1 .left)) (omega (arith, f .0)) (f .1 .0) (f .1 .1)
 
 pub lay-spec : {M : Type 1} → statement M
 lay-spec =

@@ -9,7 +9,7 @@ use Rattle.writing.proofs.write.Tie as tie
 
 returns : tie.Need-returns
 returns c =
-    let s = c .before .before .before .before in
+    let s : tie.Start = search in
     let a = s .args in
     refused-1 (now (a .input)) (now (a .directory)) (now (a .bytes)) (c .if1 .taken)
 
@@ -18,7 +18,7 @@ all-ended-requires c κs = search needs
 
 returns-2 : tie.Need-returns-2
 returns-2 c =
-    let s = c .before .before .before .before .before .before in
+    let s : tie.Start = search in
     let a = s .args in
     refused-12 (now (a .input)) (now (a .directory)) (now (a .bytes)) (c .before .before .if1 .left) (unended (now (a .input)) (sym (c .before .all-ended .ensures) ∙ not-true _ (c .if2 .taken)))
 
@@ -30,18 +30,23 @@ cast-if3 c = search needs
 
 returns-3 : tie.Need-returns-3
 returns-3 c =
-    let s = c .before .before .before .before .before .before .before .before in
+    let at-all-ended : tie.After-all-ended = search in
+    let at-else1 : tie.Else1 = search in
+    let s : tie.Start = search in
     let a = s .args in
-    refused-12 (now (a .input)) (now (a .directory)) (now (a .bytes)) (c .before .before .before .before .if1 .left) (too-many (now (a .input)) (sym (c .before .before .before .all-ended .ensures) ∙ not-false _ (c .before .before .if2 .left)) (subst (λ (m : ℕ). 65536 < m) (c .before .count .ensures) (c .if3 .taken)))
+    refused-12 (now (a .input)) (now (a .directory)) (now (a .bytes)) (at-else1 .if1 .left) (too-many (now (a .input)) (sym (at-all-ended .all-ended .ensures) ∙ not-false _ (c .before .before .if2 .left)) (subst (λ (m : ℕ). 65536 < m) (c .before .count .ensures) (c .if3 .taken)))
 
 table-requires : tie.Need-table-requires
 table-requires c κs = search needs
 
 judge-requires : tie.Need-judge-requires
 judge-requires c κs =
-    let s = c .before .before .before .before .before .before .before .before .before .before in
+    let at-count : tie.After-count = search in
+    let at-else2 : tie.Else2 = search in
+    let at-all-ended : tie.After-all-ended = search in
+    let s : tie.Start = search in
     let a = s .args in
-    (c .before .table .ensures, ((sym (c .before .before .before .before .before .all-ended .ensures) ∙ not-false _ (c .before .before .before .before .if2 .left)), (subst (λ (m : ℕ). m ≤ 65536) (c .before .before .before .count .ensures) (c .before .before .if3 .left))))
+    (c .before .table .ensures, ((sym (at-all-ended .all-ended .ensures) ∙ not-false _ (at-else2 .if2 .left)), (subst (λ (m : ℕ). m ≤ 65536) (at-count .count .ensures) (c .before .before .if3 .left))))
 
 enum-known-n : tie.Need-enum-known-n
 enum-known-n c = search needs
@@ -54,25 +59,36 @@ cast-lay c = search needs
 
 lay-requires : tie.Need-lay-requires
 lay-requires c κs =
-    let s = c .before .before .before .before .before .before .before .before .before .before .before .before .before .before .before .before in
+    let at-enum-told : tie.After-enum-told = search in
+    let at-judge : tie.After-judge = search in
+    let at-table : tie.After-table = search in
+    let at-else2 : tie.Else2 = search in
+    let at-all-ended : tie.After-all-ended = search in
+    let s : tie.Start = search in
     let a = s .args in (
-      c .before .before .before .before .before .before .before .table .ensures,
+      at-table .table .ensures,
       (
         record {
-          ends = (sym (c .before .before .before .before .before .before .before .before .before .before .before .all-ended .ensures) ∙ not-false _ (c .before .before .before .before .before .before .before .before .before .before .if2 .left));
-          few = (subst (λ (m : ℕ). m ≤ 65536) (c .before .before .before .before .before .before .before .before .before .count .ensures) (c .before .before .before .before .before .before .before .before .if3 .left));
-          fine = sym (c .before .before .before .before .before .judge .ensures) ∙ c .before .before .before .enum-told .given .1;
-          table = c .before .before .before .before .before .before .before .before .before .before .before .before .if1 .left;
+          ends = (sym (at-all-ended .all-ended .ensures) ∙ not-false _ (at-else2 .if2 .left));
+          few = (subst (λ (m : ℕ). m ≤ 65536) (at-table .before .before .count .ensures) (at-table .before .if3 .left));
+          fine = sym (at-judge .judge .ensures) ∙ at-enum-told .enum-told .given .1;
+          table = at-all-ended .before .if1 .left;
         },
-        c .before .before .before .before .before .before .before .before .before .count .ensures,
+        at-table .before .before .count .ensures,
       ),
     )
 
 returns-4 : tie.Need-returns-4
 returns-4 c =
-    let s = c .before .before .before .before .before .before .before .before .before .before .before .before .before .before in
+    let at-judge : tie.After-judge = search in
+    let at-else3 : tie.Else3 = search in
+    let at-count : tie.After-count = search in
+    let at-else2 : tie.Else2 = search in
+    let at-all-ended : tie.After-all-ended = search in
+    let at-else1 : tie.Else1 = search in
+    let s : tie.Start = search in
     let a = s .args in
-    judged (now (a .input)) (now (a .directory)) (now (a .bytes)) (c .before .before .before .before .before .before .before .before .before .before .if1 .left) (countable-of (now (a .input)) (sym (c .before .before .before .before .before .before .before .before .before .all-ended .ensures) ∙ not-false _ (c .before .before .before .before .before .before .before .before .if2 .left)) (subst (λ (m : ℕ). m ≤ 65536) (c .before .before .before .before .before .before .before .count .ensures) (c .before .before .before .before .before .before .if3 .left))) (sym (c .before .before .before .judge .ensures) ∙ c .before .n .given .1) (refused-8 (now (a .input)) (now (a .directory)) (now (a .bytes)) _)
+    judged (now (a .input)) (now (a .directory)) (now (a .bytes)) (at-else1 .if1 .left) (countable-of (now (a .input)) (sym (at-all-ended .all-ended .ensures) ∙ not-false _ (at-else2 .if2 .left)) (subst (λ (m : ℕ). m ≤ 65536) (at-count .count .ensures) (at-else3 .if3 .left))) (sym (at-judge .judge .ensures) ∙ c .before .n .given .1) (refused-8 (now (a .input)) (now (a .directory)) (now (a .bytes)) _)
 
 same-length : tie.Need-same-length
 same-length c = search needs
@@ -82,9 +98,17 @@ same-length-2 c = search needs
 
 returns-5 : tie.Need-returns-5
 returns-5 c =
-    let s = c .before .before .before .before .before .before .before .before .before .before .before .before .before .before .before .before .before .before .before .before .before in
+    let at-lay : tie.After-lay = search in
+    let at-enum-told : tie.After-enum-told = search in
+    let at-judge : tie.After-judge = search in
+    let at-else3 : tie.Else3 = search in
+    let at-count : tie.After-count = search in
+    let at-else2 : tie.Else2 = search in
+    let at-all-ended : tie.After-all-ended = search in
+    let at-else1 : tie.Else1 = search in
+    let s : tie.Start = search in
     let a = s .args in
-    judged (now (a .input)) (now (a .directory)) (now (a .bytes)) (c .before .before .before .before .before .before .before .before .before .before .before .before .before .before .before .before .before .if1 .left) (countable-of (now (a .input)) (sym (c .before .before .before .before .before .before .before .before .before .before .before .before .before .before .before .before .all-ended .ensures) ∙ not-false _ (c .before .before .before .before .before .before .before .before .before .before .before .before .before .before .before .if2 .left)) (subst (λ (m : ℕ). m ≤ 65536) (c .before .before .before .before .before .before .before .before .before .before .before .before .before .before .count .ensures) (c .before .before .before .before .before .before .before .before .before .before .before .before .before .if3 .left))) (sym (c .before .before .before .before .before .before .before .before .before .before .judge .ensures) ∙ c .before .before .before .before .before .before .before .before .enum-told .given .1) (accepted (now (a .input)) (now (a .directory)) (now (a .bytes)) (c .before .before .before .before .lay .ensures))
+    judged (now (a .input)) (now (a .directory)) (now (a .bytes)) (at-else1 .if1 .left) (countable-of (now (a .input)) (sym (at-all-ended .all-ended .ensures) ∙ not-false _ (at-else2 .if2 .left)) (subst (λ (m : ℕ). m ≤ 65536) (at-count .count .ensures) (at-else3 .if3 .left))) (sym (at-judge .judge .ensures) ∙ at-enum-told .enum-told .given .1) (accepted (now (a .input)) (now (a .directory)) (now (a .bytes)) (at-lay .lay .ensures))
 
 pub write-spec : {M : Type 1} → statement M
 write-spec =

@@ -57,9 +57,19 @@ pub fn make(family: &Family, number: u64) -> Case {
 /// Runs all families by turns, each `times` as long as a plain run; the first difference
 /// ends it.
 pub fn run(left: &dyn Calls, right: &dyn Calls, times: u64) -> Result<Tally, String> {
+    run_part(left, right, times, (0, 1))
+}
+
+/// One of so many parts of the same cases.
+pub fn run_part(
+    left: &dyn Calls,
+    right: &dyn Calls,
+    times: u64,
+    (part, parts): (u64, usize),
+) -> Result<Tally, String> {
     let mut tally = Tally::new();
     let longest = FAMILIES.iter().map(|family| family.cases * times).max();
-    for number in 0..longest.unwrap_or(0) {
+    for number in (part..longest.unwrap_or(0)).step_by(parts) {
         let wanting = |family: &&Family| number < family.cases * times;
         for family in FAMILIES.iter().filter(wanting) {
             let compared = compare(&make(family, number), left, right, &mut tally);

@@ -24,9 +24,12 @@ same-length-3 c = search needs
 
 returns : tie.Need-returns
 returns c =
-    let a = c .before .before .before .before .before .before .before .before .before .before .before .before .before .before .before .before .args in (
-      c .before .before .before .before .before .before .before .before .before .before .put .ensures .0,
-      token-put (now (a .bytes)) (now (a .text)) (now (a .rows)) (now (a .cursors)) (a .t) (a .ty) (a .p .0) (a .c .0) (a .at) (a .row) (c .before .before .before .before .before .before .before .before .before .before .put .ensures .1) (c .before .before .before .before .before .before .put-row .ensures) (c .before .before .advance .ensures),
+    let at-put-row : tie.After-put-row = search in
+    let at-put : tie.After-put = search in
+    let at-start : tie.Start = search in
+    let a = at-start .args in (
+      at-put .put .ensures .0,
+      token-put (now (a .bytes)) (now (a .text)) (now (a .rows)) (now (a .cursors)) (a .t) (a .ty) (a .p .0) (a .c .0) (a .at) (a .row) (at-put .put .ensures .1) (at-put-row .put-row .ensures) (c .before .before .advance .ensures),
     )
 
 pub keep-token-spec : {M : Type 1} → statement M

@@ -1,0 +1,23 @@
+-- Rule 4 at the last position, which takes END alone.
+use Prim.Native.Nat.{ℕ}
+use mathlib.Core.Bool.{Bool, true, false}
+use lib.Dec.{eqb}
+use Rattle.base.specs.Choice.{both}
+use Rattle.tokens.specs.declared.TokenType.{TokenType}
+use Rattle.tokens.specs.declared.TokenType.the-variants as type
+
+-- a type in the table other than END
+unfoldable pub carries : TokenType → Bool
+carries type.String = true
+carries type.Char = true
+carries type.Digits = true
+carries type.Digits0 = true
+carries type.Delta = true
+carries type.Delta0 = true
+carries type.Match = true
+carries type.End = false
+carries type.Other = false
+
+-- 7: at position 128, a type in the table other than END
+unfoldable pub barred : ℕ → TokenType → Bool
+barred p t = both (eqb p 128) (carries t)

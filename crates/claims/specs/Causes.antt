@@ -1,0 +1,29 @@
+-- What a claim is answered, and when: each answer with its cause.
+use Prim.Native.Nat.{ℕ, _≤_, _<_}
+use mathlib.Core.Path.{_≡_}
+use mathlib.Core.List.{List}
+use Rattle.block.specs.declared.State.{State}
+use Rattle.block.specs.declared.Refusal.the-variants as refusal
+use Rattle.kept.specs.Tables.{entryAt}
+use Rattle.kept.specs.Inside.{TextCounted, TextInside}
+use Rattle.claims.specs.declared.Verdict.{Verdict}
+use Rattle.claims.specs.declared.Verdict.the-variants.{Confirmed, Denied, Refused}
+use Rattle.claims.specs.Claims.{nameText}
+
+-- the counts fit, the name is kept, and its text lies inside
+pub record Answerable (number : ℕ) (s : State) (text names : List ℕ) : Type 0 where
+  pub counts : TextCounted s text names
+  pub below : number < s .names
+  pub inside : TextInside s (entryAt names number)
+
+-- all of the bytes of the name claimed
+abbrev pub wholeName : ℕ → List ℕ → List ℕ → List ℕ
+wholeName number text names = nameText text (entryAt names number)
+
+-- an answer with its cause
+pub data Cause (number : ℕ) (claim : List ℕ) (s : State) (text names : List ℕ) : Verdict → Type 0 where
+  counts-outside : (TextCounted s text names → ⊥) → Cause number claim s text names (Refused (refusal.Plain 13))
+  not-kept : TextCounted s text names → s .names ≤ number → Cause number claim s text names (Refused (refusal.At 11 number))
+  text-outside : TextCounted s text names → number < s .names → (TextInside s (entryAt names number) → ⊥) → Cause number claim s text names (Refused (refusal.At 13 number))
+  differs : Answerable number s text names → (claim ≡ wholeName number text names → ⊥) → Cause number claim s text names Denied
+  agrees : Answerable number s text names → claim ≡ wholeName number text names → Cause number claim s text names Confirmed

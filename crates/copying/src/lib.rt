@@ -1,0 +1,47 @@
+// A name that is a copy of an earlier one, kept with its entry.
+ghost use mathlib.Core.Path.{_≡_};
+ghost use mathlib.Core.List.{List};
+ghost use Prim.Native.Nat.{ℕ};
+ghost use lib.ListN.{length};
+ghost use Rattle.kept.specs.Tables.{keeping, tablesLent};
+ghost use Rattle.kept.specs.Inside.{Counted, TextInside};
+ghost use Rattle.sources.specs.Source.{source};
+ghost use Rattle.heads.specs.Headed.{Passable};
+ghost use Rattle.copying.specs.Copies.{dupOf, leavesRows};
+ghost use Rattle.base.specs.Lent.{lent};
+ghost use Rattle.block.specs.Streams.{dupStream};
+use block::State;
+use block::stream;
+use entries::Reading;
+use heads::heading;
+use kept::Entry;
+use spans::Distance;
+
+// Rule 3, of an earlier name that was judged. Where the block's bytes and directory lie doesn't matter to it.
+pub fn copied(
+    cursors: &mut [u32],
+    text: &mut [u8],
+    entries: &mut [u32],
+    rows: &[u32],
+    state: State,
+    distance: Distance,
+    e: Entry,
+) -> Reading
+    requires { ⌜ Counted (keeping state (now text) (now entries) (now rows)) ⌝ }
+    requires { ⌜ TextInside state e ⌝ }
+    requires { ⌜ (length (now cursors) ≡ 1290) × Passable (now cursors) dupStream ⌝ }
+    ensures { λ r. ⌜ ((bytes dir : List ℕ) → leavesRows r cursors text entries rows ≡ dupOf (source bytes dir (lent cursors)) (tablesLent state text entries rows) (distance .0) e) ⌝ }
+{
+    let bytes = e.length;
+    if entries::has_room(state, text, entries, rows, bytes, 0) {
+        let from = e.start as usize;
+        let at = state.text as usize;
+        let size = bytes as usize;
+        base::copy_within(text, from, from + size, at);
+        base::put_byte(text, at + size, 10);
+        heading::move_head(cursors, stream::DUP);
+        entries::enter(entries, state, bytes, 0, e.first, e.rows, distance)
+    } else {
+        entries::refuse(9, state)
+    }
+}

@@ -1,0 +1,82 @@
+// DUP and DIFF, with the earlier name judged or known to fit.
+ghost use mathlib.Core.Path.{_≡_};
+ghost use mathlib.Core.List.{List};
+ghost use Prim.Native.Nat.{ℕ, _≤_};
+ghost use lib.ListN.{length};
+ghost use Rattle.block.specs.Open.{Open};
+ghost use Rattle.kept.specs.Tables.{keeping, tablesLent};
+ghost use Rattle.kept.specs.Inside.{Counted};
+ghost use Rattle.sources.specs.Source.{source, blockLent};
+ghost use Rattle.earlier.specs.Fits.{Known};
+ghost use Rattle.entries.specs.Outcomes.{leaves};
+ghost use Rattle.heads.specs.Headed.{Passable, Headed};
+ghost use Rattle.copying.specs.Copies.{leavesRows};
+ghost use Rattle.dupdiff.specs.Judged.{dupJudged, diffJudged};
+ghost use Rattle.base.specs.Lent.{lent};
+ghost use Rattle.block.specs.Streams.{dupStream, diffStream};
+use block::State;
+use earlier::Back;
+use entries::Reading;
+use kept::tables;
+use spans::Distance;
+
+// DUP, with the earlier name judged or known to fit.
+pub fn dup(
+    known: bool,
+    cursors: &mut [u32],
+    text: &mut [u8],
+    entries: &mut [u32],
+    rows: &[u32],
+    state: State,
+    distance: Distance,
+) -> Reading
+    requires { ⌜ Counted (keeping state (now text) (now entries) (now rows)) ⌝ }
+    requires { ⌜ (1 ≤ distance .0) × (distance .0 ≤ state .names) ⌝ }
+    requires { ⌜ (length (now cursors) ≡ 1290) × Passable (now cursors) dupStream ⌝ }
+    requires { ⌜ Known known (keeping state (now text) (now entries) (now rows)) ⌝ }
+    ensures { λ r. ⌜ ((bytes dir : List ℕ) → leavesRows r cursors text entries rows ≡ dupJudged (source bytes dir (lent cursors)) (tablesLent state text entries rows) (distance .0)) ⌝ }
+{
+    let back = state.names - distance.0;
+    if earlier::fits_back(known, state, entries, rows, back) {
+        let e = tables::entry_at(entries, back);
+        copying::copied(cursors, text, entries, rows, state, distance, e)
+    } else {
+        entries::refuse(13, state)
+    }
+}
+
+// DIFF, with the earlier name judged or known to fit if there is one.
+pub fn diff(
+    known: bool,
+    bytes: &[u8],
+    dir: &[u32],
+    cursors: &mut [u32],
+    text: &mut [u8],
+    entries: &mut [u32],
+    rows: &mut [u32],
+    state: State,
+    distance: Distance,
+) -> Reading
+    requires { ⌜ Open (now bytes) (now dir) (now cursors) ⌝ }
+    requires { ⌜ Counted (keeping state (now text) (now entries) (now rows)) ⌝ }
+    requires { ⌜ Headed (source (now bytes) (now dir) (now cursors)) diffStream (distance .0) (state .names) ⌝ }
+    requires { ⌜ Known known (keeping state (now text) (now entries) (now rows)) ⌝ }
+    ensures { λ r. ⌜ leaves r cursors text entries rows ≡ diffJudged (blockLent bytes dir cursors) (tablesLent state text entries rows) (distance .0) ⌝ }
+{
+    match earlier::leans(known, state, entries, rows, distance) {
+        Back::Rows { first, count } => naming::named(
+            known,
+            bytes,
+            dir,
+            cursors,
+            text,
+            entries,
+            rows,
+            state,
+            distance,
+            first,
+            count,
+        ),
+        Back::Outside => entries::refuse(13, state),
+    }
+}

@@ -1,0 +1,27 @@
+-- What may be filled in: an input of good names, and a directory for it; and what filling leaves.
+use Prim.Native.Nat.{ℕ, _≤_}
+use mathlib.Core.Path.{_≡_}
+use mathlib.Core.Bool.{true}
+use mathlib.Core.List.{List}
+use lib.ListN.{length}
+use Rattle.base.specs.Lent.{Buffer, lent, left}
+use Rattle.inputs.specs.declared.Judged.the-variants.{Fine}
+use Rattle.inputs.specs.Inputs.{namesOf, ended, judgedFrom}
+use Rattle.laying.specs.Puts.{Put, totalOf, directoryOf, bytesOf}
+use Rattle.nameputs.specs.NamePuts.{putsOf}
+
+-- an input of good names, and a directory for it
+pub record Ready (input dir : List ℕ) : Type 0 where
+  pub ends : ended input ≡ true
+  pub few : length (namesOf input) ≤ 65536
+  pub fine : judgedFrom 0 (namesOf input) ≡ Fine
+  pub table : length dir ≡ 2580
+
+-- all that the names of a lent input put
+abbrev pub putsLent : Buffer → List Put
+putsLent input = putsOf (namesOf (lent input))
+
+-- the total, and the directory and the bytes that hold it
+abbrev pub Filled : ℕ → Buffer → Buffer → Buffer → Type 0
+Filled total directory bytes input =
+    (total ≡ totalOf (putsLent input)) × ((left directory ≡ directoryOf (putsLent input)) × (left bytes ≡ bytesOf (putsLent input) (lent bytes)))

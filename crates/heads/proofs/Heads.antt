@@ -1,0 +1,205 @@
+-- Position 0, way by way, in a contract's direction; and what a head tells.
+use Prim.Native.Nat.{ℕ, _+_, _*_, _^_, _≤_}
+use mathlib.Core.Path.{_≡_, refl, sym, ap, _∙_}
+use mathlib.Core.Bool.{true, false}
+use mathlib.Core.List.{List}
+use native.Mathlib.Omega.{arith}
+use borrow.Author.Tests.{eq-eqb, ne-eqb, leb-true, eqb-true}
+use lib.Dec.{leb, eqb}
+use lib.ListN.{set}
+use Rattle.base.specs.Choice.{pick}
+use Rattle.base.proofs.Choice.{took, left, pick-true, pick-false, by-test, both-true}
+use Rattle.base.specs.Every.{Below}
+use Rattle.spans.specs.declared.Cursor.{Cursor}
+use Rattle.spans.specs.declared.Distance.{Distance}
+use Rattle.spans.specs.declared.NextByte.{NextByte}
+use Rattle.spans.specs.declared.NextByte.the-variants as byte
+use Rattle.spans.specs.declared.NextFour.{NextFour}
+use Rattle.spans.specs.declared.NextFour.the-variants as four
+use Rattle.block.specs.Block.{spanOf, endOf, cursorOf}
+use Rattle.block.specs.Open.{Open}
+use Rattle.block.proofs.Laws.{span-below, span-stream, cursor-set-other, open-set}
+use Rattle.block.specs.Streams.{typeStream, dupStream, diffStream}
+use Rattle.tokens.specs.Types.{dupNumber, diffNumber}
+use Rattle.sources.specs.Source.{Source, source, byteIn}
+use Rattle.moving.specs.Moves.{past}
+use Rattle.names.proofs.Cursors.{byte-reach, four-reach}
+use Rattle.moving.proofs.Moves.{past-later}
+use Rattle.names.proofs.Frames.{SameFrom}
+use Rattle.heads.specs.declared.Head.{Head}
+use Rattle.heads.specs.declared.Head.the-variants as head
+use Rattle.heads.specs.Headed.{Headed, Passable}
+use Rattle.heads.specs.Heads.{dupFits, diffFits, dupHead, diffHead, distanceIn, typedHead, headOf, headPast}
+
+module _ (n : ℕ) {d : ℕ} {c : Cursor} {found : NextFour} (q : found ≡ four.Value d c) where
+  pub dup-near : dupFits d n ≡ true → head.Dup (record { 0 = d }) ≡ dupHead n found
+  unfolding dupHead
+  dup-near h = rw q (took _ _ h refl)
+
+  pub dup-far : dupFits d n ≡ false → head.Refused 4 ≡ dupHead n found
+  unfolding dupHead
+  dup-far h = rw q (left _ _ h refl)
+
+  pub diff-near : diffFits d n ≡ true → head.Diff (record { 0 = d }) ≡ diffHead n found
+  unfolding diffHead
+  diff-near h = rw q (took _ _ h refl)
+
+  pub diff-far : diffFits d n ≡ false → head.Refused 4 ≡ diffHead n found
+  unfolding diffHead
+  diff-far h = rw q (left _ _ h refl)
+
+pub dup-short : (n : ℕ) {found : NextFour} → found ≡ four.Short → head.Refused 2 ≡ dupHead n found
+unfolding dupHead
+dup-short n q = rw q
+
+pub diff-short : (n : ℕ) {found : NextFour} → found ≡ four.Short → head.Refused 2 ≡ diffHead n found
+unfolding diffHead
+diff-short n q = rw q
+
+module _ (s : Source) (n : ℕ) where
+  pub head-short : byteIn s 0 0 ≡ byte.Short → head.Refused 2 ≡ headOf s n
+  unfolding headOf typedHead
+  head-short q = rw q
+
+  module _ {t : ℕ} {c : Cursor} (q : byteIn s 0 0 ≡ byte.Value t c) where
+    pub head-dup : {found : NextFour} {r : Head} → t ≡ dupNumber → found ≡ distanceIn s dupStream → r ≡ dupHead n found → r ≡ headOf s n
+    unfolding headOf typedHead
+    head-dup k f h = rw q (took _ _ (eq-eqb _ _ k) (h ∙ ap (dupHead n) f))
+
+    pub head-diff : {found : NextFour} {r : Head} → t ≡ diffNumber → found ≡ distanceIn s diffStream → r ≡ diffHead n found → r ≡ headOf s n
+    unfolding headOf typedHead
+    head-diff k f h = rw q (left _ _ (ne-eqb t dupNumber (λ z. omega arith)) (took _ _ (eq-eqb _ _ k) (h ∙ ap (diffHead n) f)))
+
+    pub head-other : (t ≡ dupNumber → ⊥) → (t ≡ diffNumber → ⊥) → head.Refused 3 ≡ headOf s n
+    unfolding headOf typedHead
+    head-other a b = rw q (left _ _ (ne-eqb _ _ a) (left _ _ (ne-eqb _ _ b) refl))
+
+-- the cursors past a head
+pub head-kept : (cur now : List ℕ) (i n : ℕ) → now ≡ past cur (spanOf 0 0) n → 1 ≤ i → i ≤ 9 → cursorOf now (spanOf 0 i) ≡ cursorOf cur (spanOf 0 i)
+unfolding past
+head-kept cur now i n e h k =
+    ap (λ (x : List ℕ). cursorOf x (spanOf 0 i)) e
+    ∙ cursor-set-other cur (spanOf 0 0) (cursorOf cur (spanOf 0 0) + n) (spanOf 0 i) (λ q. let z = span-stream 0 i 0 0 k (omega arith) q in omega arith)
+
+pub head-moved : (cur : List ℕ) (i : ℕ) {now then : List ℕ} {m n : ℕ} → now ≡ past cur (spanOf 0 0) m → then ≡ past now (spanOf 0 i) n → m ≡ 1 → n ≡ 4 → then ≡ headPast cur i
+unfolding headPast
+head-moved cur i e f p q = rw (f, e, p, q)
+
+-- they are those of position 0 alone
+pub head-same : (cur : List ℕ) (i : ℕ) → i ≤ 9 → SameFrom 1 (headPast cur i) cur
+unfolding headPast
+head-same cur i h j k = past-later (past cur (spanOf 0 0) 1) 0 i 4 j h (omega arith) ∙ past-later cur 0 0 1 j (omega arith) (omega arith)
+
+never-dup : {r : ℕ} {d : Distance} → head.Refused r ≡ head.Dup d → ⊥
+never-dup q = let z : _≡_ {A = ℕ} 0 1 = cc in omega arith
+
+never-diff : {r : ℕ} {d : Distance} → head.Refused r ≡ head.Diff d → ⊥
+never-diff q = let z : _≡_ {A = ℕ} 0 1 = cc in omega arith
+
+never-both : {a b : Distance} → head.Dup a ≡ head.Diff b → ⊥
+never-both q = let z : _≡_ {A = ℕ} 0 1 = cc in omega arith
+
+dup-within : (d n : ℕ) → dupFits d n ≡ true → (1 ≤ d) × (d ≤ n)
+dup-within d n q = let b = both-true (leb 1 d) (leb d n) q in (leb-true 1 d (b .0), leb-true d n (b .1))
+
+diff-within : (d n : ℕ) → diffFits d n ≡ true → d ≤ n
+diff-within d n q =
+    by-test (eqb n 0)
+    (λ y. let z : d ≡ 0 = eqb-true d 0 (sym (pick-true (eqb d 0) (dupFits d n) y) ∙ q) in omega arith)
+    (λ y. dup-within d n (sym (pick-false (eqb d 0) (dupFits d n) y) ∙ q) .1)
+
+module _ (s : Source) (n : ℕ) (d : Distance) where
+  dup-four : (f : NextFour) → distanceIn s dupStream ≡ f → dupHead n f ≡ head.Dup d → ((1 ≤ d .0) × (d .0 ≤ n)) × (cursorOf (s .cur) (spanOf 0 dupStream) + 4 ≤ endOf (s .dir) (spanOf 0 dupStream))
+  unfolding dupHead
+  dup-four (four.Value v c) q r =
+      by-test (dupFits v n)
+      (λ y.
+      let w = sym (pick-true (head.Dup (record { 0 = v })) (head.Refused 4) y) ∙ r in
+      let e : record { 0 = v } ≡ d = cc in
+      let k : v ≡ d .0 = ap (λ (x : Distance). x .0) e in
+      let b = dup-within v n y in
+      ((omega arith, omega arith), four-reach s 0 dupStream q .1 .high))
+      (λ y. absurd (never-dup (sym (pick-false (head.Dup (record { 0 = v })) (head.Refused 4) y) ∙ r)))
+  dup-four four.Short q r = absurd (never-dup r)
+
+  diff-four : (f : NextFour) → distanceIn s diffStream ≡ f → diffHead n f ≡ head.Diff d → (d .0 ≤ n) × (cursorOf (s .cur) (spanOf 0 diffStream) + 4 ≤ endOf (s .dir) (spanOf 0 diffStream))
+  unfolding diffHead
+  diff-four (four.Value v c) q r =
+      by-test (diffFits v n)
+      (λ y.
+      let w = sym (pick-true (head.Diff (record { 0 = v })) (head.Refused 4) y) ∙ r in
+      let e : record { 0 = v } ≡ d = cc in
+      let k : v ≡ d .0 = ap (λ (x : Distance). x .0) e in
+      let b = diff-within v n y in
+      (omega arith, four-reach s 0 diffStream q .1 .high))
+      (λ y. absurd (never-diff (sym (pick-false (head.Diff (record { 0 = v })) (head.Refused 4) y) ∙ r)))
+  diff-four four.Short q r = absurd (never-diff r)
+
+  diff-no-dup : (f : NextFour) → diffHead n f ≡ head.Dup d → ⊥
+  unfolding diffHead
+  diff-no-dup (four.Value v c) r =
+      by-test (diffFits v n)
+      (λ y. never-both (sym r ∙ pick-true (head.Diff (record { 0 = v })) (head.Refused 4) y))
+      (λ y. never-dup (sym (pick-false (head.Diff (record { 0 = v })) (head.Refused 4) y) ∙ r))
+  diff-no-dup four.Short r = never-dup r
+
+  dup-no-diff : (f : NextFour) → dupHead n f ≡ head.Diff d → ⊥
+  unfolding dupHead
+  dup-no-diff (four.Value v c) r =
+      by-test (dupFits v n)
+      (λ y. never-both (sym (pick-true (head.Dup (record { 0 = v })) (head.Refused 4) y) ∙ r))
+      (λ y. never-diff (sym (pick-false (head.Dup (record { 0 = v })) (head.Refused 4) y) ∙ r))
+  dup-no-diff four.Short r = never-diff r
+
+  typed-dup : (b : NextByte) → byteIn s 0 typeStream ≡ b → typedHead s n b ≡ head.Dup d → (1 ≤ d .0) × Headed s dupStream (d .0) n
+  unfolding typedHead
+  typed-dup (byte.Value t c) q r =
+      let x = dupHead n (distanceIn s dupStream) in
+      let y = diffHead n (distanceIn s diffStream) in
+      let z = pick (eqb t 6) y (head.Refused 3) in
+      by-test (eqb t dupNumber)
+      (λ a.
+      let w = dup-four (distanceIn s dupStream) refl (sym (pick-true x z a) ∙ r) in
+      (w .0 .0, record { near = w .0 .1; typed = byte-reach s 0 0 q .1 .high; four = w .1 }))
+      (λ a.
+      by-test (eqb t 6)
+      (λ b. absurd (diff-no-dup (distanceIn s diffStream) (sym (pick-true y (head.Refused 3) b) ∙ sym (pick-false x z a) ∙ r)))
+      (λ b. absurd (never-dup (sym (pick-false y (head.Refused 3) b) ∙ sym (pick-false x z a) ∙ r))))
+  typed-dup byte.Short q r = absurd (never-dup r)
+
+  typed-diff : (b : NextByte) → byteIn s 0 typeStream ≡ b → typedHead s n b ≡ head.Diff d → Headed s diffStream (d .0) n
+  unfolding typedHead
+  typed-diff (byte.Value t c) q r =
+      let x = dupHead n (distanceIn s dupStream) in
+      let y = diffHead n (distanceIn s diffStream) in
+      let z = pick (eqb t 6) y (head.Refused 3) in
+      by-test (eqb t dupNumber)
+      (λ a. absurd (dup-no-diff (distanceIn s dupStream) (sym (pick-true x z a) ∙ r)))
+      (λ a.
+      by-test (eqb t 6)
+      (λ b.
+      let w = diff-four (distanceIn s diffStream) refl (sym (pick-true y (head.Refused 3) b) ∙ sym (pick-false x z a) ∙ r) in
+      record { near = w .0; typed = byte-reach s 0 0 q .1 .high; four = w .1 })
+      (λ b. absurd (never-diff (sym (pick-false y (head.Refused 3) b) ∙ sym (pick-false x z a) ∙ r))))
+  typed-diff byte.Short q r = absurd (never-diff r)
+
+  pub dup-told : headOf s n ≡ head.Dup d → (1 ≤ d .0) × Headed s dupStream (d .0) n
+  unfolding headOf
+  dup-told r = typed-dup (byteIn s 0 0) refl r
+
+  pub diff-told : headOf s n ≡ head.Diff d → Headed s diffStream (d .0) n
+  unfolding headOf
+  diff-told r = typed-diff (byteIn s 0 0) refl r
+
+-- past a head every cursor is inside its span
+pub head-open : (bytes dir cur : List ℕ) (i d n : ℕ) → Open bytes dir cur → 1 ≤ i → i ≤ 9 → Headed (source bytes dir cur) i d n → Open bytes dir (headPast cur i)
+unfolding headPast past
+head-open bytes dir cur i d n o h k g =
+    let typed = open-set bytes dir cur (spanOf 0 0) (cursorOf cur (spanOf 0 0) + 1) o (span-below 0 0 (omega arith) (omega arith)) (omega arith) (g .typed) in
+    let w = cursor-set-other cur (spanOf 0 0) (cursorOf cur (spanOf 0 0) + 1) (spanOf 0 i) (λ q. let z = span-stream 0 i 0 0 k (omega arith) q in omega arith) in
+    open-set bytes dir (set cur (spanOf 0 0) (cursorOf cur (spanOf 0 0) + 1)) (spanOf 0 i) _ typed (span-below 0 i (omega arith) k) (omega arith) (omega (arith, g .four))
+
+pub head-passable : (bytes dir cur : List ℕ) (i d n : ℕ) → Below (2 ^ 32) dir → Headed (source bytes dir cur) i d n → Passable cur i
+unfolding endOf
+head-passable bytes dir cur i d n b g =
+    record { typed = omega (arith, g .typed, b (2 * spanOf 0 0 + 1)); four = omega (arith, g .four, b (2 * spanOf 0 i + 1)) }

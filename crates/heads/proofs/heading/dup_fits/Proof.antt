@@ -1,0 +1,14 @@
+use Rattle.base.proofs.Choice.{took, left}
+use borrow.Author.Tests.{le-leb, lt-leb}
+use mathlib.Core.Path.{refl}
+use Rattle.heads.proofs.heading.dup_fits.Statement.{statement}
+use Rattle.heads.proofs.heading.dup_fits.Tie as tie
+
+returns : tie.Need-returns
+returns c = let at-then1 : tie.Then1 = search in took _ _ (le-leb _ _ (at-then1 .if1 .taken)) refl
+
+returns-2 : tie.Need-returns-2
+returns-2 c = left _ _ (lt-leb _ _ (c .if1 .left)) refl
+
+pub dup-fits-spec : {M : Type 1} → statement M
+dup-fits-spec = tie.close (tie.spec returns returns-2)

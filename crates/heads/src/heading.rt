@@ -1,0 +1,95 @@
+// Position 0: DUP or DIFF, and the distance.
+ghost use mathlib.Core.Path.{_≡_};
+ghost use Prim.Native.Nat.{_≤_};
+ghost use lib.ListN.{length};
+ghost use Rattle.block.specs.Open.{Open};
+ghost use Rattle.sources.specs.Source.{blockLent};
+ghost use Rattle.heads.specs.Headed.{Passable};
+ghost use Rattle.heads.specs.Heads.{dupFits, diffFits, dupHead, diffHead, distanceIn, headOf, headPast};
+ghost use Rattle.base.specs.Lent.{lent, left};
+use crate::Head;
+use block::stream;
+use spans::Distance;
+use spans::NextByte;
+use spans::NextFour;
+use spans::Position;
+
+fn dup_fits(d: Distance, n: u32) -> bool
+    ensures { λ r. ⌜ r ≡ dupFits (d .0) n ⌝ }
+{
+    if 1 <= d.0 { d.0 <= n } else { false }
+}
+
+fn diff_fits(d: Distance, n: u32) -> bool
+    ensures { λ r. ⌜ r ≡ diffFits (d .0) n ⌝ }
+{
+    if n == 0 {
+        return d.0 == 0;
+    }
+    dup_fits(d, n)
+}
+
+fn dup_head(n: u32, found: NextFour) -> Head
+    ensures { λ r. ⌜ r ≡ dupHead n found ⌝ }
+{
+    match found {
+        NextFour::Value(v, _) => {
+            let d = Distance(v);
+            if dup_fits(d, n) {
+                Head::Dup(d)
+            } else {
+                Head::Refused(4)
+            }
+        }
+        NextFour::Short => Head::Refused(2),
+    }
+}
+
+fn diff_head(n: u32, found: NextFour) -> Head
+    ensures { λ r. ⌜ r ≡ diffHead n found ⌝ }
+{
+    match found {
+        NextFour::Value(v, _) => {
+            let d = Distance(v);
+            if diff_fits(d, n) {
+                Head::Diff(d)
+            } else {
+                Head::Refused(4)
+            }
+        }
+        NextFour::Short => Head::Refused(2),
+    }
+}
+
+fn distance_in(bytes: &[u8], dir: &[u32], cursors: &[u32], stream: u32) -> NextFour
+    requires { ⌜ Open (now bytes) (now dir) (now cursors) ⌝ }
+    requires { ⌜ stream ≤ 9 ⌝ }
+    ensures { λ r. ⌜ r ≡ distanceIn (blockLent bytes dir cursors) stream ⌝ }
+{
+    sources::four_in(bytes, dir, cursors, Position(0), stream)
+}
+
+// Name n's.
+pub fn head(bytes: &[u8], dir: &[u32], cursors: &[u32], n: u32) -> Head
+    requires { ⌜ Open (now bytes) (now dir) (now cursors) ⌝ }
+    ensures { λ r. ⌜ r ≡ headOf (blockLent bytes dir cursors) n ⌝ }
+{
+    match sources::byte_in(bytes, dir, cursors, Position(0), stream::TYPE) {
+        NextByte::Value(t, _) => match t {
+            tokens::DUP => dup_head(n, distance_in(bytes, dir, cursors, stream::DUP)),
+            tokens::DIFF => diff_head(n, distance_in(bytes, dir, cursors, stream::DIFF)),
+            _ => Head::Refused(3),
+        },
+        NextByte::Short => Head::Refused(2),
+    }
+}
+
+// The cursors past both.
+pub fn move_head(cursors: &mut [u32], stream: u32)
+    requires { ⌜ (length (now cursors) ≡ 1290) × ((1 ≤ stream) × (stream ≤ 9)) ⌝ }
+    requires { ⌜ Passable (now cursors) stream ⌝ }
+    ensures { λ _. ⌜ left cursors ≡ headPast (lent cursors) stream ⌝ }
+{
+    moving::move_on(cursors, Position(0), stream::TYPE, 1);
+    moving::move_on(cursors, Position(0), stream, 4);
+}

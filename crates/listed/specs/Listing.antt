@@ -1,0 +1,46 @@
+-- What the program prints for an input.
+use Prim.Native.Nat.{ℕ, _≤_}
+use mathlib.Core.Path.{_≡_}
+use mathlib.Core.Bool.{true}
+use mathlib.Core.List.{List, _++_}
+use lib.Dec.{ltb}
+use lib.ListN.{length}
+use Rattle.base.specs.Choice.{pick}
+use Rattle.block.specs.declared.Refusal.the-variants.{Plain, At}
+use Rattle.laying.specs.Puts.{totalOf}
+use Rattle.inputs.specs.declared.Judged.{Judged}
+use Rattle.inputs.specs.declared.Judged.the-variants.{Fine, Bad}
+use Rattle.writing.specs.declared.WriteAnswer.{WriteAnswer}
+use Rattle.writing.specs.declared.WriteAnswer.the-variants.{Written, Refused}
+use Rattle.inputs.specs.Inputs.{namesOf, ended, judgedFrom}
+use Rattle.nameputs.specs.NamePuts.{putsOf}
+use Rattle.writing.specs.Writes.{countable}
+use Rattle.lines.specs.Lines.{linesOf}
+use Rattle.closing.specs.Closing.{refusalText, totalsText}
+
+-- what is said of names to which the writer gave an answer
+unfoldable pub answerText : List (List ℕ) → WriteAnswer → List ℕ
+answerText names (Written n b) = linesOf names ++ totalsText n b
+answerText names (Refused r) = refusalText r
+
+-- the writer's answer where there is room for the bytes
+unfoldable pub judgedAnswer : Judged → List (List ℕ) → WriteAnswer
+judgedAnswer Fine names = Written (length names) (totalOf (putsOf names))
+judgedAnswer (Bad n) names = Refused (At 8 n)
+
+unfoldable pub answerOf : List ℕ → WriteAnswer
+answerOf input = pick (countable input) (judgedAnswer (judgedFrom 0 (namesOf input)) (namesOf input)) (Refused (Plain 12))
+
+-- the listing of an input
+unfoldable pub listingOf : List ℕ → List ℕ
+listingOf input = answerText (namesOf input) (answerOf input)
+
+-- "at most 4,096 bytes (more prints "refused 9")"
+unfoldable pub listedOf : List ℕ → List ℕ
+listedOf input = pick (ltb 4096 (length input)) (refusalText (Plain 9)) (listingOf input)
+
+-- an input of good names
+pub record Good (input : List ℕ) : Type 0 where
+  pub ends : ended input ≡ true
+  pub few : length (namesOf input) ≤ 65536
+  pub fine : judgedFrom 0 (namesOf input) ≡ Fine

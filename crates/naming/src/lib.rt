@@ -1,0 +1,76 @@
+// A name read over the rows of an earlier one, kept with its entry.
+ghost use mathlib.Core.Path.{_≡_};
+ghost use Prim.Native.Nat.{_+_, _≤_};
+ghost use Rattle.block.specs.Open.{Open};
+ghost use Rattle.kept.specs.Tables.{keeping};
+ghost use Rattle.kept.specs.Inside.{Counted};
+ghost use Rattle.sources.specs.Source.{source, earlier};
+ghost use Rattle.repeats.specs.Sound.{Rows};
+ghost use Rattle.repeating.specs.Repeats.{Repeats};
+ghost use Rattle.entries.specs.Outcomes.{leaves};
+ghost use Rattle.heads.specs.Headed.{Headed};
+ghost use Rattle.naming.specs.Naming.{diffOfLent};
+ghost use Rattle.block.specs.Streams.{diffStream};
+use block::State;
+use block::stream;
+use entries::Reading;
+use heads::heading;
+use names::Judged;
+use spans::Distance;
+
+// Rule 4, over the rows of an earlier name that was judged: walked to judge it, and once more to keep it.
+pub fn named(
+    known: bool,
+    bytes: &[u8],
+    dir: &[u32],
+    cursors: &mut [u32],
+    text: &mut [u8],
+    entries: &mut [u32],
+    rows: &mut [u32],
+    state: State,
+    distance: Distance,
+    first: u32,
+    count: u32,
+) -> Reading
+    requires { ⌜ Open (now bytes) (now dir) (now cursors) ⌝ }
+    requires { ⌜ Counted (keeping state (now text) (now entries) (now rows)) ⌝ }
+    requires { ⌜ Rows (state .text) (earlier (now text) (now rows) first count) × (first + count ≤ state .rows) ⌝ }
+    requires { ⌜ Headed (source (now bytes) (now dir) (now cursors)) diffStream (distance .0) (state .names) ⌝ }
+    requires { ⌜ Repeats known (earlier (now text) (now rows) first count) ⌝ }
+    ensures { λ r. ⌜ leaves r cursors text entries rows ≡ diffOfLent bytes dir cursors text entries rows state (distance .0) first count ⌝ }
+{
+    let mut keeping = false;
+    loop {
+        match walks::walk(
+            keeping,
+            known,
+            bytes,
+            dir,
+            cursors,
+            text,
+            rows,
+            first,
+            count,
+            state.text,
+            state.rows,
+        ) {
+            Judged::Refused(r) => {
+                return entries::refuse(r, state);
+            }
+            Judged::Name {
+                rows: added,
+                length: size,
+            } => {
+                if keeping {
+                    return entries::enter(entries, state, size, added, state.rows, added, distance);
+                }
+                if entries::has_room(state, text, entries, rows, size, added) {
+                    heading::move_head(cursors, stream::DIFF);
+                    keeping = true;
+                } else {
+                    return entries::refuse(9, state);
+                }
+            }
+        }
+    }
+}

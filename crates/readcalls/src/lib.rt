@@ -1,0 +1,58 @@
+// A read and a whole block as C functions leave them: the answer one number, the state as four.
+// A refused read leaves what it may write as it was, the state too; a whole block keeps what was done before the refusal.
+ghost use mathlib.Core.Path.{_≡_};
+ghost use Rattle.calls.specs.Calls.{readsLeft, readCallLent, blockCallLent};
+
+pub fn read(
+    bytes: &[u8],
+    directory: &[u32],
+    cursors: &mut [u32],
+    text: &mut [u8],
+    names: &mut [u32],
+    rows: &mut [u32],
+    state: &mut [u32; 4],
+) -> u64
+    ensures { λ r. ⌜ readsLeft r cursors text names rows state ≡ readCallLent bytes directory cursors text names rows state ⌝ }
+{
+    let r = reading::read(
+        bytes,
+        directory,
+        cursors,
+        text,
+        names,
+        rows,
+        answers::state_in(state),
+    );
+    let s = r.state;
+    *state = answers::state_out(s);
+    let a = r.answer;
+    answers::answered(a, s.names)
+}
+
+pub fn read_block(
+    bytes: &[u8],
+    directory: &[u32],
+    count: u32,
+    cursors: &mut [u32],
+    text: &mut [u8],
+    names: &mut [u32],
+    rows: &mut [u32],
+    state: &mut [u32; 4],
+) -> u64
+    ensures { λ r. ⌜ readsLeft r cursors text names rows state ≡ blockCallLent bytes directory count cursors text names rows state ⌝ }
+{
+    let r = reading::read_block(
+        bytes,
+        directory,
+        count,
+        cursors,
+        text,
+        names,
+        rows,
+        answers::state_in(state),
+    );
+    let s = r.state;
+    *state = answers::state_out(s);
+    let a = r.answer;
+    answers::answered(a, s.names)
+}

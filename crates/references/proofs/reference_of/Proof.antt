@@ -1,0 +1,27 @@
+use mathlib.Core.Path.{refl, sym, _∙_}
+use borrow.Author.Needs.{needs}
+use Rattle.base.proofs.Choice.{took, left}
+use Rattle.references.specs.References.{referenceOf}
+use Rattle.references.proofs.reference_of.Statement.{statement}
+use Rattle.references.proofs.reference_of.Tie as tie
+
+is-anew-requires : tie.Need-is-anew-requires
+is-anew-requires c κs = search needs
+
+returns : tie.Need-returns
+unfolding referenceOf
+returns c = took _ _ (sym (c .before .is-anew .ensures) ∙ c .if1 .taken) refl
+
+same-requires : tie.Need-same-requires
+same-requires c κs = search needs
+
+returns-2 : tie.Need-returns-2
+unfolding referenceOf
+returns-2 c = left _ _ (sym (c .before .before .before .is-anew .ensures) ∙ c .before .before .if1 .left) (took _ _ (rw (← c .before .same .ensures) (c .if2 .taken)) refl)
+
+returns-3 : tie.Need-returns-3
+unfolding referenceOf
+returns-3 c = left _ _ (sym (c .before .before .before .is-anew .ensures) ∙ c .before .before .if1 .left) (left _ _ (rw (← c .before .same .ensures) (c .if2 .left)) refl)
+
+pub reference-of-spec : {M : Type 1} → statement M
+reference-of-spec = tie.close (tie.spec is-anew-requires returns same-requires returns-2 returns-3)

@@ -1,0 +1,36 @@
+-- What a name's tokens put into which span: each its type, then its value.
+use Prim.Native.Nat.{ℕ, _+_}
+use mathlib.Core.List.{List, [], _∷_, _++_}
+use Rattle.block.specs.Block.{spanOf}
+use Rattle.block.specs.Streams.{typeStream}
+use Rattle.tokens.specs.declared.TokenType.{TokenType}
+use Rattle.tokens.specs.Types.{typeNumber}
+use Rattle.pieces.specs.declared.Piece.{Piece}
+use Rattle.pieces.specs.declared.Piece.the-variants.{String, Char, Digits, Digits0}
+use Rattle.choices.specs.declared.Choice.{Choice}
+use Rattle.choices.specs.declared.Choice.the-variants.{Itself, Delta, Delta0, Match, End}
+use Rattle.laying.specs.Puts.{Put, put}
+use Rattle.tokens.specs.declared.TokenType.the-variants as type
+use Rattle.valueputs.specs.ValuePuts.{valuePuts}
+
+unfoldable pub pieceType : Piece → TokenType
+pieceType (String a e) = type.String
+pieceType (Char b) = type.Char
+pieceType (Digits n) = type.Digits
+pieceType (Digits0 x) = type.Digits0
+
+unfoldable pub choiceType : Choice → TokenType
+choiceType (Itself t) = pieceType t
+choiceType (Delta d) = type.Delta
+choiceType (Delta0 d) = type.Delta0
+choiceType Match = type.Match
+choiceType End = type.End
+
+-- its type, then its value
+unfoldable pub choicePuts : List ℕ → ℕ → Choice → List Put
+choicePuts s p c = put (spanOf p typeStream) (typeNumber (choiceType c) ∷ []) ∷ valuePuts s p c
+
+-- the choices for a name's tokens, from position p on
+unfoldable pub tokenPuts : List ℕ → ℕ → List Choice → List Put
+tokenPuts s p [] = []
+tokenPuts s p (c ∷ cs) = choicePuts s p c ++ tokenPuts s (p + 1) cs
