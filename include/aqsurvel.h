@@ -16,7 +16,8 @@
  *   directory  2,580 numbers: for each position 0 to 128 ten spans, each a start and an end in bytes, in the order
  *              TYPE STRING CHAR DIGITS0 DZLEN DUP DIFF DIGITS DDELTA DDELTA0
  *   cursors    1,290 numbers: for each span an offset into the bytes
- *   names      five numbers a name: text start, text length, first row, number of rows, distance
+ *   names      five numbers a name: text start, text length, first row, number of rows, distance; a distance of 0 means
+ *              no earlier name: name 0 has it, and every later name that starts afresh
  *   rows       five numbers a row: kind (1 STRING, 2 CHAR, 4 DIGITS0, 7 DIGITS), number, width, text start, text length
  *   text       each kept name followed by byte 10
  *   state      count of the block, names kept (k), text bytes used, rows used
@@ -32,8 +33,8 @@
  *   1   directory or cursor table of another length, a start above its end, an end above the bytes
  *   2   a span ends before what is wanted
  *   3   a type that isn't 5 or 6 at position 0, or not in the table at 1 to 128
- *   4   a distance that the name may not have
- *   5   MATCH, DDELTA or DDELTA0 with no earlier name or no fitting row
+ *   4   a distance that the name may not have: above its number, or 0 with DUP
+ *   5   MATCH, DDELTA or DDELTA0 with no earlier name (distance 0) or no fitting row
  *   6   a sum of 2^32 or more, a width of 0, a number too long for its width
  *   7   at position 128, a type in the table other than END
  *   8   a byte SAM doesn't allow, more than 254 bytes, or none

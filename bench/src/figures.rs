@@ -2,7 +2,7 @@
 
 use crate::clock::{shortest, Rounds};
 use crate::names::Names;
-use crate::work::{each_block, Call, Holder, CALLS, HOLDERS};
+use crate::work::{each_block, Call, Holder, Work, CALLS, HOLDERS};
 use std::collections::HashMap;
 
 pub struct Figures {
@@ -14,30 +14,38 @@ pub struct Figures {
 }
 
 impl Figures {
-    /// The holders of a call by turns, one block after the other; their times added up.
     pub fn of(names: &Names, rounds: Rounds) -> Result<Figures, String> {
-        let mut figures = Figures {
+        Figures::by_turns([names], rounds).map(|[figures]| figures)
+    }
+
+    /// Of the same names put in several ways: the holders of a call in each way by turns, one block
+    /// after the other; their times added up.
+    pub fn by_turns<const WAYS: usize>(
+        ways: [&Names; WAYS],
+        rounds: Rounds,
+    ) -> Result<[Figures; WAYS], String> {
+        let mut all = ways.map(|names| Figures {
             word: names.word.clone(),
             count: names.count(),
             tokens: 0,
             times: HashMap::new(),
-        };
-        each_block(names, |work| {
-            figures.tokens += u64::from(work.tokens());
+        });
+        each_block(&ways, |works| {
+            for (figures, work) in all.iter_mut().zip(works.iter()) {
+                figures.tokens += u64::from(work.tokens());
+            }
             for (_, call) in CALLS {
-                let holders = HOLDERS.map(|(_, holder)| holder);
-                let holders = holders.into_iter().filter(|holder| work.has(*holder, call));
-                let holders: Vec<Holder> = holders.collect();
-                let times = shortest(rounds.of(work.count), &holders, |holder| {
-                    work.run(holder, call)
+                let turns = turns(works, call);
+                let times = shortest(rounds.of(works[0].count), &turns, |(way, holder)| {
+                    works[way].run(holder, call)
                 });
-                for (holder, time) in holders.into_iter().zip(times) {
-                    *figures.times.entry((call, holder)).or_default() += time;
+                for ((way, holder), time) in turns.into_iter().zip(times) {
+                    *all[way].times.entry((call, holder)).or_default() += time;
                 }
             }
             Ok(())
         })?;
-        Ok(figures)
+        Ok(all)
     }
 
     pub fn a_name(&self, call: Call, holder: Holder) -> Option<f64> {
@@ -49,4 +57,12 @@ impl Figures {
     pub fn a_token(&self, call: Call) -> f64 {
         self.times[&(call, Holder::Library)] / self.tokens as f64
     }
+}
+
+/// Each way with each holder that has the call there.
+fn turns(works: &[Work], call: Call) -> Vec<(usize, Holder)> {
+    let ways = works.iter().enumerate();
+    let turns = ways.flat_map(|(way, work)| HOLDERS.map(|(_, holder)| (way, work, holder)));
+    let turns = turns.filter(|(_, work, holder)| work.has(*holder, call));
+    turns.map(|(way, _, holder)| (way, holder)).collect()
 }

@@ -3,7 +3,8 @@
 //! `bench` prints the tables of times. `bench one` runs one call of one holder over 1,000
 //! Illumina-like names so many times, prints how many names those are and nothing else, for a
 //! counter of instructions; the difference between two such runs leaves the setting up out. With
-//! a file both are of its names, a name a line. `bench lent` says what is lent in either.
+//! a number behind it every so many-th of the names that are read starts afresh. With a file both
+//! are of its names, a name a line. `bench lent` says what is lent in either.
 
 #![deny(unsafe_code)]
 
@@ -17,13 +18,16 @@ mod work;
 
 use clock::Rounds;
 use names::{Names, ILLUMINA};
+use std::num::NonZeroUsize;
 use std::process::ExitCode;
+use std::str::FromStr;
 use work::{by_word, each_block, CALLS, HOLDERS};
 
 const USAGE: &str = "bench lent
 bench [--names FILE] [ROUNDS]
-bench [--names FILE] one library|second|plain|tok3 CALL TIMES
-CALL: 'whole block', 'single reads', claims, 'writing, exact' or 'writing, ample'";
+bench [--names FILE] one library|second|plain|tok3 CALL TIMES [AFRESH]
+CALL: 'whole block', 'single reads', claims, 'writing, exact' or 'writing, ample'
+AFRESH: every so many-th name that is read starts afresh";
 
 fn main() -> ExitCode {
     let words: Vec<String> = std::env::args().skip(1).collect();
@@ -43,8 +47,13 @@ fn run(words: &[&str]) -> Result<(), String> {
         _ => (None, words),
     };
     match words {
-        ["one", holder, call, times] => {
+        ["one", holder, call, times, afresh @ ..] => {
             let names = names.unwrap_or_else(|| ILLUMINA.names(1_000));
+            let names = match afresh {
+                [] => names,
+                [every] => names.afresh(number::<NonZeroUsize>(every)?.get()),
+                _ => return Err(USAGE.to_string()),
+            };
             one(&names, holder, call, number(times)?)
         }
         ["lent"] => {
@@ -57,18 +66,20 @@ fn run(words: &[&str]) -> Result<(), String> {
     }
 }
 
-fn number(word: &str) -> Result<u32, String> {
+fn number<T: FromStr>(word: &str) -> Result<T, String> {
     word.parse().map_err(|_| USAGE.to_string())
 }
 
 fn one(names: &Names, holder: &str, call: &str, times: u32) -> Result<(), String> {
     let known = by_word(&HOLDERS, holder).zip(by_word(&CALLS, call));
     let (holder, call) = known.ok_or(USAGE)?;
-    each_block(names, |work| {
-        if !work.has(holder, call) {
-            return Err("this holder has no such call".to_string());
+    each_block(&[names], |works| {
+        for work in works {
+            if !work.has(holder, call) {
+                return Err("this holder has no such call".to_string());
+            }
+            (0..times).for_each(|_| work.run(holder, call));
         }
-        (0..times).for_each(|_| work.run(holder, call));
         Ok(())
     })?;
     println!("{}", names.count());

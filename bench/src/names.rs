@@ -5,9 +5,12 @@ use second::directory::MOST_NAMES;
 use std::path::Path;
 
 /// Names to measure with, as the inputs of blocks: each name ended by byte 10.
+#[derive(Clone)]
 pub struct Names {
     pub word: String,
     pub blocks: Vec<Vec<u8>>,
+    /// Every so many-th name of a block starts afresh; none but the first where there is no number.
+    pub afresh: Option<usize>,
 }
 
 impl Names {
@@ -15,6 +18,15 @@ impl Names {
         Names {
             word: word.to_string(),
             blocks: vec![input],
+            afresh: None,
+        }
+    }
+
+    /// The same names, every so many-th starting afresh.
+    pub fn afresh(&self, every: usize) -> Names {
+        Names {
+            afresh: Some(every),
+            ..self.clone()
         }
     }
 
@@ -33,6 +45,7 @@ impl Names {
         Ok(Names {
             word: name.to_string_lossy().into_owned(),
             blocks: blocks.map(|block| block.concat()).collect(),
+            afresh: None,
         })
     }
 

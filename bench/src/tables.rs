@@ -5,6 +5,7 @@ use crate::figures::Figures;
 use crate::names::{of_tokens, Names, FAMILIES, ILLUMINA};
 use crate::work::{Call, Holder, WritingRoom, CALLS};
 use second::directory::MOST_NAMES;
+use std::fmt::Display;
 
 /// For every figure, be it a time or instructions.
 pub const LENT: &str = "\
@@ -15,11 +16,14 @@ for each byte of a name, which are as many rows as there can be. Single reads: a
 that says done. Claims: each name once, as it is, out of order.
 Writing, exact, is lent as many bytes as it fills; writing, ample, six for each byte of the input, which suffice for
 any names, so that nobody counts first. tok3 makes its own room, and its entropy coding is included.
+Afresh: every so many-th name of the block that is read starts afresh (DIFF 0), which writing never makes; so many
+names are written at a time, and the streams put one behind the other.
 Names of a file are taken in blocks of at most 65,536, and what the blocks take is added up.";
 
 const TIMES: &str = "
 Times are the processor's nanoseconds, each the shortest of its rounds, after one that isn't counted. What stands in
-one line is taken by turns, and a figure that stands in several tables is one measurement.
+one line is taken by turns, and so is all about names that start afresh; any other figure that stands in several tables
+is one measurement.
 ";
 
 pub fn print(names: Option<Names>, rounds: Rounds) -> Result<(), String> {
@@ -30,7 +34,11 @@ pub fn print(names: Option<Names>, rounds: Rounds) -> Result<(), String> {
         "names", "count", "call", "library", "second", "ratio", "tok3", "ratio"
     );
     match names {
-        Some(names) => against_a_plain_loop(&against_the_others(&names, rounds)?),
+        Some(names) => {
+            let figures = against_the_others(&names, rounds)?;
+            against_a_plain_loop(&figures);
+            afresh(&names, rounds)?;
+        }
         None => {
             let mut compared = Vec::new();
             for family in &FAMILIES {
@@ -42,6 +50,7 @@ pub fn print(names: Option<Names>, rounds: Rounds) -> Result<(), String> {
                 unreachable!("two of the first family")
             };
             against_a_plain_loop(small);
+            afresh(&ILLUMINA.names(1_000), rounds)?;
             growth(small, large, rounds)?;
         }
     }
@@ -100,6 +109,26 @@ fn ratio_cell(ratio: Option<f64>) -> String {
     ratio.map_or_else(|| format!("{:>6}", "-"), |ratio| format!("{ratio:>6.2}"))
 }
 
+fn library_a_name(figures: &Figures, call: Call) -> f64 {
+    let time = figures.a_name(call, Holder::Library);
+    time.expect("the library has every call")
+}
+
+/// The library's reading where names start afresh, against the same names as they are written.
+fn afresh(names: &Names, rounds: Rounds) -> Result<(), String> {
+    println!(
+        "\nNames that start afresh ({}, {} names): time a name, and its ratio to the first line",
+        names.word,
+        names.count()
+    );
+    let ways = [names, &names.afresh(64), &names.afresh(1)];
+    let [written, some, all] = &Figures::by_turns(ways, rounds)?;
+    let lines = [("first", written), ("64th", some), ("all", all)];
+    let shown = [Call::WholeBlock, Call::SingleReads];
+    grow("afresh", &shown, lines, library_a_name);
+    Ok(())
+}
+
 /// How the library's time grows with names and with tokens.
 fn growth(small: &Figures, large: &Figures, rounds: Rounds) -> Result<(), String> {
     println!(
@@ -109,11 +138,13 @@ fn growth(small: &Figures, large: &Figures, rounds: Rounds) -> Result<(), String
     let [fewer, more] = between;
     let (fewer, more) = (fewer?, more?);
     let lines = [small, &fewer, &more, large].map(|figures| (figures.count, figures));
-    let a_name = |figures: &Figures, call| {
-        let time = figures.a_name(call, Holder::Library);
-        time.expect("the library has every call")
-    };
-    grow("names", lines, a_name);
+    let shown = [
+        Call::WholeBlock,
+        Call::SingleReads,
+        Call::Writing(WritingRoom::Exact),
+        Call::Writing(WritingRoom::Ample),
+    ];
+    grow("names", &shown, lines, library_a_name);
 
     println!(
         "\nHow cost grows with tokens (1,000 names): time a token, and its ratio to the first line"
@@ -123,21 +154,16 @@ fn growth(small: &Figures, large: &Figures, rounds: Rounds) -> Result<(), String
         of.push((tokens, Figures::of(&of_tokens(tokens, 1_000), rounds)?));
     }
     let lines = of.iter().map(|(tokens, figures)| (*tokens, figures));
-    grow("tokens", lines, Figures::a_token);
+    grow("tokens", &shown, lines, Figures::a_token);
     Ok(())
 }
 
 fn grow<'a>(
     word: &str,
-    lines: impl IntoIterator<Item = (usize, &'a Figures)>,
+    shown: &[Call],
+    lines: impl IntoIterator<Item = (impl Display, &'a Figures)>,
     each: impl Fn(&Figures, Call) -> f64,
 ) {
-    let shown = [
-        Call::WholeBlock,
-        Call::SingleReads,
-        Call::Writing(WritingRoom::Exact),
-        Call::Writing(WritingRoom::Ample),
-    ];
     let words = CALLS.iter().filter(|(_, call)| shown.contains(call));
     let heads: Vec<String> = words
         .map(|(word, _)| format!("{word:>14} {:>6}", "ratio"))
@@ -145,8 +171,8 @@ fn grow<'a>(
     println!("{word:>8} {}", heads.join(" "));
     let mut first = None;
     for (label, figures) in lines {
-        let times = shown.map(|call| each(figures, call));
-        let base = *first.get_or_insert(times);
+        let times: Vec<f64> = shown.iter().map(|call| each(figures, *call)).collect();
+        let base: &Vec<f64> = first.get_or_insert_with(|| times.clone());
         let cells = times.iter().zip(base);
         let cells: Vec<String> = cells
             .map(|(time, base)| format!("{time:>14.1} {:>6.2}", time / base))

@@ -5,8 +5,8 @@ use crate::plain::{self, Verdict};
 use crate::reference::Reference;
 use second::boundary::Linked;
 use second::calls::{Calls, Second};
-use second::cases::script::Packed;
-use second::directory::MOST_NAMES;
+use second::cases::script::{Packed, Script};
+use second::directory::{Stream, MOST_NAMES, STREAMS};
 use second::kept::FIVE;
 use second::memory::{self, Memory, Room};
 use second::refusal::{unpack, DONE};
@@ -59,17 +59,22 @@ pub fn by_word<T: Copy>(words: &[(&str, T)], word: &str) -> Option<T> {
     found.map(|(_, thing)| *thing)
 }
 
-/// Something with one block after the other, so that only one at a time takes memory.
+/// Something with one block after the other, so that only one at a time takes memory, in each way
+/// that its names are put.
 pub fn each_block(
-    names: &Names,
-    mut run: impl FnMut(&mut Work) -> Result<(), String>,
+    ways: &[&Names],
+    mut run: impl FnMut(&mut [Work]) -> Result<(), String>,
 ) -> Result<(), String> {
-    for (number, input) in names.blocks.iter().enumerate() {
-        let mut work = Work::new(input.clone()).map_err(|(code, name)| {
-            let line = number * MOST_NAMES as usize + name as usize + 1;
-            format!("{}, line {line}: refused {code}", names.word)
-        })?;
-        run(&mut work)?;
+    for number in 0..ways[0].blocks.len() {
+        let work = |names: &&Names| {
+            let input = names.blocks[number].clone();
+            Work::new(input, names.afresh).map_err(|(code, name)| {
+                let line = number * MOST_NAMES as usize + name as usize + 1;
+                format!("{}, line {line}: refused {code}", names.word)
+            })
+        };
+        let works: Result<Vec<Work>, String> = ways.iter().map(work).collect();
+        run(&mut works?)?;
     }
     Ok(())
 }
@@ -85,6 +90,8 @@ pub struct Work {
     ample: Memory,
     writing: memory::Call,
     codec: Option<Reference>,
+    /// Whether names inside the block start afresh.
+    afresh: bool,
 }
 
 /// A step with which claims go through the names out of order, and meet each once: both are prime,
@@ -98,20 +105,16 @@ const fn stride(count: u32) -> u32 {
 
 impl Work {
     /// A refusal's number and name where these names can't be written.
-    fn new(input: Vec<u8>) -> Result<Work, (u32, u32)> {
+    fn new(input: Vec<u8>, afresh: Option<usize>) -> Result<Work, (u32, u32)> {
         let writing = memory::Call::Write {
             input: input.clone(),
         };
         let mut ample = Memory::to_write(6 * input.len(), 0);
-        let (code, value) = unpack(ample.run(&Linked, &writing));
-        if code != 0 {
-            return Err((code, value));
-        }
-        let [count, total] = ample.total_numbers();
-        let block = Packed {
-            bytes: ample.bytes.get()[..total as usize].to_vec(),
-            directory: ample.directory.get().to_vec(),
-            count,
+        let plain = written(&mut ample, &writing)?;
+        let (count, total) = (plain.count, plain.bytes.len());
+        let block = match afresh {
+            Some(every) => started_afresh(&mut ample, &input, every)?,
+            None => plain,
         };
         let mut work = Work {
             block: Memory::new(&block, room(&input, count as usize)),
@@ -119,18 +122,24 @@ impl Work {
             codec: Reference::new(&input),
             input,
             count,
-            exact: Memory::to_write(total as usize, 0),
+            exact: Memory::to_write(total, 0),
             ample,
             writing,
+            afresh: afresh.is_some(),
         };
         // Claims and the count of tokens look at what is kept.
         work.run(Holder::Library, Call::WholeBlock);
+        assert!(work.block.text.get() == work.input, "these are the names");
         Ok(work)
     }
 
     /// Whole-block reading stands against the codec's decoding and writing against its encoding,
-    /// once, since it makes its own room.
+    /// once, since it makes its own room. Only reading sees that names start afresh.
     pub fn has(&self, holder: Holder, call: Call) -> bool {
+        if self.afresh {
+            let reads = [Call::WholeBlock, Call::SingleReads].contains(&call);
+            return reads && [Holder::Library, Holder::Second].contains(&holder);
+        }
         match holder {
             Holder::Library | Holder::Second => true,
             Holder::Plain | Holder::PlainWithWayOut => call == Call::SingleReads,
@@ -215,6 +224,40 @@ impl Work {
     pub fn tokens(&self) -> u32 {
         self.block.state_numbers()[3]
     }
+}
+
+/// What the library writes, or its refusal's number and name.
+fn written(lent: &mut Memory, writing: &memory::Call) -> Result<Packed, (u32, u32)> {
+    let (code, value) = unpack(lent.run(&Linked, writing));
+    if code != 0 {
+        return Err((code, value));
+    }
+    let [count, total] = lent.total_numbers();
+    Ok(Packed {
+        bytes: lent.bytes.get()[..total as usize].to_vec(),
+        directory: lent.directory.get().to_vec(),
+        count,
+    })
+}
+
+/// A block in which every so many-th name starts afresh, which writing never makes: so many names
+/// are written at a time, and these blocks' streams put one behind the other, span by span.
+fn started_afresh(lent: &mut Memory, input: &[u8], every: usize) -> Result<Packed, (u32, u32)> {
+    let names: Vec<&[u8]> = input.split_inclusive(|byte| *byte == b'\n').collect();
+    let mut script = Script::new();
+    for names in names.chunks(every) {
+        let input = names.concat();
+        let block = written(lent, &memory::Call::Write { input })?;
+        for (place, span) in block.directory.chunks_exact(2).enumerate() {
+            let (position, stream) = (place / STREAMS, Stream::ALL[place % STREAMS]);
+            let bytes = &block.bytes[span[0] as usize..span[1] as usize];
+            script = script.put(position, stream, bytes);
+        }
+    }
+    Ok(Packed {
+        count: names.len() as u32,
+        ..script.packed()
+    })
 }
 
 /// Just the text and the entries; a row for every byte, since each token prints one at least.

@@ -103,7 +103,7 @@ static const struct shown SHOWN[] = {
     {"no rows", NAMES_AT + 8, 0, 1, "ab9"},
     {"rows that end before the name does", NAMES_AT + 8, 1, 1, "ab9"},
     {"a distance beyond the first name", NAMES_AT + 9, 2, 1, "ab9"},
-    {"no distance", NAMES_AT + 9, 0, 1, "ab9"},
+    {"an entry that starts afresh", NAMES_AT + 9, 0, 1, "ab9"},
     {"a distance of two", NAMES_AT + 14, 2, 2, "ab9"},
     {"an earlier name that points outside", NAMES_AT, 10, 1, "ab9"},
     {"a kind that there isn't", ROWS_AT + 15, 3, 1, "ab9"},

@@ -1,4 +1,4 @@
--- The demands at the C boundary: what a call that is refused leaves, what a whole-block read leaves, one outcome only, and demand 3.
+-- The demands at the C boundary: what a call that is refused leaves, what a whole-block read leaves, one outcome only, demand 3, and a name that starts afresh (C-11).
 use Prim.Native.Nat.{ℕ, _≤_, _<_}
 use mathlib.Core.Path.{_≡_, refl, sym, ap, _∙_, subst}
 use mathlib.Core.List.{List, [], _∷_}
@@ -12,12 +12,16 @@ use Rattle.base.proofs.Numbers.{lt-or-ge}
 use Rattle.block.specs.declared.Refusal.{Refusal}
 use Rattle.block.specs.declared.Opened.the-variants as opened
 use Rattle.block.specs.Block.{Opening, opening, openOf, starts, state}
+use Rattle.block.specs.Streams.{diffStream}
 use Rattle.kept.specs.Tables.{Kept, keeping}
+use Rattle.tokens.specs.Types.{diffNumber}
 use Rattle.sources.specs.Source.{Source, source}
 use Rattle.entries.specs.declared.Answer.{Answer}
 use Rattle.entries.specs.declared.Answer.the-variants as answer
 use Rattle.entries.specs.Outcomes.{Outcome, outcome}
 use Rattle.entries.specs.Entries.{kept}
+use Rattle.earlier.specs.Back.{none}
+use Rattle.naming.specs.Naming.{diffOf}
 use Rattle.reads.specs.Reads.{readOf}
 use Rattle.reading.specs.Blocks.{openedOf, blockOf}
 use Rattle.writing.specs.declared.WriteAnswer.{WriteAnswer}
@@ -28,7 +32,7 @@ use Rattle.calls.specs.Calls.{Opens, opens, openedState, opensOf, openCall, Rea
 use Rattle.demands.specs.Runs as runs
 use Rattle.demands.specs.Runs.{Lent, lent, read, left, Keeps, Call, reading, claiming, after, run, claimed, nameAt}
 use Rattle.demands.specs.Refusals as cases
-use Rattle.demands.specs.Refusals.{OpenCase, WriteCase, Why, ReadCase, refuses, ends, keeps}
+use Rattle.demands.specs.Refusals.{OpenCase, WriteCase, Ready, Heads, Why, ReadCase, refuses, ends, keeps}
 use Rattle.demands.specs.Right.{Judged, Demand3}
 use Rattle.demands.specs.Boundary.{Stopped, begun, lentFrom, callOn, callsOn, KeepCalls, no-call, next-call, WholeCall, claimOn, JudgedCall, Demand3Call}
 use Rattle.demands.specs.Untouched.{Whole}
@@ -38,6 +42,7 @@ use Rattle.demands.proofs.Untouched.{block-reads}
 use Rattle.demands.proofs.Unwritten.{write-refused}
 use Rattle.demands.proofs.Demand3.{read-or-not, plain-reads, demand-3, block-demand-3}
 use Rattle.demands.proofs.Contracts.{one-outcome}
+use Rattle.demands.proofs.Afresh.{starts-afresh}
 
 -- a state of four numbers goes out as it came in: aq_read and aq_read_block write it on every path
 pub state-back : (l : List ℕ) → length l ≡ 4 → stateOut (stateIn l) ≡ l
@@ -300,6 +305,14 @@ module _ (bytes dir : List ℕ) (count : ℕ) (cur text names rows st : List ℕ
       demand-3-call bytes dir (lentFrom start) _ _ (calls-run bytes dir calls block)
       (subst (λ (l : Lent). Demand3 bytes dir l (run bytes dir (lentFrom block) calls)) (sym lends)
       (block-demand-3 (source bytes dir cur) (keeping (stateIn st) text names rows) count _ _ accepts calls))
+
+-- C-11: a read of a name that starts afresh is rule 4 with no earlier name, whatever the tables hold
+pub afresh-call : (bytes dir cur text names rows st : List ℕ)
+    → Ready (source bytes dir cur) (keeping (stateIn st) text names rows) → (stateIn st .names ≡ stateIn st .count → ⊥) → Heads (source bytes dir cur) diffNumber diffStream 0
+    → readCall bytes dir cur text names rows st
+    ≡ readsOf (diffOf (source bytes dir cur) (keeping (stateIn st) text names rows) 0 (none (keeping (stateIn st) text names rows)))
+unfolding readCall
+afresh-call bytes dir cur text names rows st ready more g = ap readsOf (starts-afresh (source bytes dir cur) (keeping (stateIn st) text names rows) ready more g .reads)
 
 -- each contract of an export has one outcome only
 pub one-open-call : (bytes dir : List ℕ) (count : ℕ) (cur st : List ℕ) (x y : Opens) → x ≡ openCall bytes dir count cur st → y ≡ openCall bytes dir count cur st → x ≡ y

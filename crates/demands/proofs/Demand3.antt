@@ -42,7 +42,7 @@ unfolding run
 run-sure bytes dir [] l s = s
 run-sure bytes dir (c ∷ cs) l s = run-sure bytes dir cs (after bytes dir l c) (after-sure bytes dir l c s)
 
--- at all times: the counts and cursors are sound, every kept name's tokens, printed end to end, are that name, and each later name's reference points to a lower number
+-- at all times: the counts and cursors are sound, every kept name's tokens, printed end to end, are that name, and each reference, a distance of 1 or more (C-11), points to a lower number
 pub always-right : (bytes dir : List ℕ) (count : ℕ) (l : Lent) → Fresh bytes dir count l → (calls : List Call) → Right bytes dir (run bytes dir l calls)
 always-right bytes dir count l f calls = sure-right bytes dir (run bytes dir l calls) (run-sure bytes dir calls l (fresh-sure bytes dir count l f))
 

@@ -164,7 +164,7 @@ module _ (s : Source) (m : Kept) where
 
   leans-reads : (d : ℕ) (e : Earlier) → Leans s m d e → nameRead ≡ diffOf s m d e
   unfolding headedOf entryBack
-  leans-reads d e (on-none h z) = ap (headedOf s m) (head-diff s _ 0 h (diff-none z)) ∙ pick-true _ _ (eq-eqb 0 0 refl)
+  leans-reads d e (on-none h) = ap (headedOf s m) (head-diff s _ 0 h diff-none) ∙ pick-true _ _ (eq-eqb 0 0 refl)
   leans-reads d e (on-earlier x h b f) =
       ap (headedOf s m) (head-diff s _ d h (diff-back d b)) ∙ pick-false _ _ (ne-eqb d 0 (λ z. omega (arith, b .0))) ∙ pick-true _ _ (earlier-fits-of m _ f)
 
@@ -185,6 +185,10 @@ module _ (s : Source) (m : Kept) where
   name-reads : Ready s m → (m .state .names ≡ m .state .count → ⊥) → readOf s m ≡ nameRead
   unfolding nextOf
   name-reads a b = ready-reads s m a ∙ pick-false _ _ (ne-eqb _ _ b)
+
+  -- a DIFF, by the rows that it goes by
+  pub leans-read : Ready s m → (m .state .names ≡ m .state .count → ⊥) → (d : ℕ) (e : Earlier) → Leans s m d e → readOf s m ≡ diffOf s m d e
+  leans-read a b d e l = name-reads a b ∙ leans-reads d e l
 
   why-reads : (r : Refusal) → Why s m r → readOf s m ≡ outcome (answer.Refused r) (s .cur) m
   unfolding readOf nextOf plain atName
@@ -210,16 +214,20 @@ why-way s m r o (keeps x first rows d a b c f) e = let z : _≡_ {A = ℕ} 0 1 =
 pub read-why : (s : Source) (m : Kept) (r : Refusal) → readOf s m .answer ≡ answer.Refused r → Why s m r
 read-why s m r e = why-way s m r (readOf s m) (read-case s m) e
 
-carries : (m : Kept) (s : Source) (r n : ℕ) (q : Refusal) → Why s m q → q ≡ refusal.At r n → n ≡ m .state .names
-carries m s r n q (unsound a) e = let z : _≡_ {A = ℕ} 0 1 = cc in absurd (omega arith)
-carries m s r n q (uncounted a b) e = let z : _≡_ {A = ℕ} 0 1 = cc in absurd (omega arith)
-carries m s r n q (outside a b c) e = let z : _≡_ {A = ℕ} 0 1 = cc in absurd (omega arith)
-carries m s r n q (unread a b c) e = let z : _≡_ {A = ℕ} 0 1 = cc in absurd (omega arith)
-carries m s r n q (unnamed k a b c) e = cc
+-- one that carries a name is of the name being read, and has its reason
+why-named : (s : Source) (m : Kept) (r n : ℕ) (q : Refusal) → Why s m q → q ≡ refusal.At r n → (n ≡ m .state .names) × Reason s m r
+why-named s m r n q (unsound a) e = let z : _≡_ {A = ℕ} 0 1 = cc in absurd (omega arith)
+why-named s m r n q (uncounted a b) e = let z : _≡_ {A = ℕ} 0 1 = cc in absurd (omega arith)
+why-named s m r n q (outside a b c) e = let z : _≡_ {A = ℕ} 0 1 = cc in absurd (omega arith)
+why-named s m r n q (unread a b c) e = let z : _≡_ {A = ℕ} 0 1 = cc in absurd (omega arith)
+why-named s m r n q (unnamed k a b c) e = let z : k ≡ r = cc in (cc, subst (Reason s m) z c)
+
+pub read-named : (s : Source) (m : Kept) (r n : ℕ) → readOf s m .answer ≡ answer.Refused (refusal.At r n) → (n ≡ m .state .names) × Reason s m r
+read-named s m r n e = why-named s m r n (refusal.At r n) (read-why s m (refusal.At r n) e) refl
 
 -- the number that goes with a refusal is that of the name being read
 pub carries-number : (s : Source) (m : Kept) (r n : ℕ) → readOf s m .answer ≡ answer.Refused (refusal.At r n) → n ≡ m .state .names
-carries-number s m r n e = carries m s r n (refusal.At r n) (read-why s m (refusal.At r n) e) refl
+carries-number s m r n e = read-named s m r n e .0
 
 -- the number of a refusal of the name being read: 2 to 9, or 13 for the earlier name
 head-rule : (s : Source) (n r : ℕ) → HeadStop s n r → ByRule r
@@ -232,5 +240,5 @@ pub by-reason : {P : Type 0} (s : Source) (m : Kept) (r : ℕ) → Reason s m r 
     → ((d : ℕ) → Back (m .state .names) d → earlierFits m (m .state .names - d) ≡ false → r ≡ 13 → P) → P
 by-reason s m r (by-head x q) f g = f (head-rule s _ r q)
 by-reason s m r (by-memory t i d h is b q) f g = g d b q refl
-by-reason s m r (by-token x d e l q) f g = f (name-refuses _ _ _ _ r q)
+by-reason s m r (by-token x d e l q) f g = let b = name-refuses _ _ _ _ r q in f (b .0, omega (arith, b .1 .0))
 by-reason s m r (by-room x first rows d o q) f g = f (omega arith, omega arith)

@@ -15,6 +15,7 @@ use Rattle.entries.specs.Outcomes.{Outcome}
 use Rattle.earlier.specs.Back.{entryBack}
 use Rattle.claims.specs.Claims.{nameText}
 use Rattle.demands.specs.Takes.{takesFrom, headTakes}
+use Rattle.demands.specs.Refusals.{Back}
 use Rattle.demands.specs.Right.{Refers}
 
 -- before a place, or from another one on
@@ -27,10 +28,10 @@ pub record Alike (before after : List ℕ) (from to : ℕ) : Type 0 where
   pub others : (j : ℕ) → Outside from to j → getD after j 0 ≡ getD before j 0
 
 -- the two kinds of names: the bytes of each, the rows it adds, what it takes from each span, and its entry.
--- A DUP is the earlier name, adds no row, takes its type and distance, and has the earlier name's rows;
+-- A DUP has a distance from 1 to n, is the earlier name, adds no row, takes its type and distance, and has the earlier name's rows;
 -- a DIFF has the rows that it adds, and takes its type and distance and its positions up to END, which are one more than its rows
 pub data Kind (s : Source) (m : Kept) : List ℕ → ℕ → (ℕ → ℕ) → Entry → Type 0 where
-  by-dup : (e : Entry) → e .first ≡ entryBack m (e .distance) .first → e .rows ≡ entryBack m (e .distance) .rows
+  by-dup : (e : Entry) → Back (m .state .names) (e .distance) → e .first ≡ entryBack m (e .distance) .first → e .rows ≡ entryBack m (e .distance) .rows
       → Kind s m (nameText (m .text) (entryBack m (e .distance))) 0 (headTakes dupStream) e
   by-diff : (name : List ℕ) (rows : ℕ) (e : Entry) → e .first ≡ m .state .rows → e .rows ≡ rows
       → Kind s m name rows (λ j. headTakes diffStream j + takesFrom s 1 (rows + 1) j) e

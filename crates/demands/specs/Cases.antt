@@ -10,7 +10,7 @@ use Rattle.spans.specs.declared.NextByte.the-variants as byte
 use Rattle.spans.specs.declared.NextFour.the-variants as four
 use Rattle.block.specs.Block.{spanOf, starts, state}
 use Rattle.tokens.specs.Tokens.{bytesOf}
-use Rattle.kept.specs.Tables.{keeping}
+use Rattle.kept.specs.Tables.{Kept, keeping}
 use Rattle.values.specs.declared.Step.{Step}
 use Rattle.values.specs.declared.Step.the-variants as step
 use Rattle.values.specs.Values.{paddedOf, digits0Step}
@@ -75,9 +75,22 @@ unfoldable pub inDirectory : List Stream → Bool
 inDirectory [] = true
 inDirectory (x ∷ xs) = both (both (leb (x .position) 128) (leb (x .stream) 9)) (inDirectory xs)
 
--- what opening such a block leaves, with small buffers
-unfoldable pub openOver : ℕ → List Stream → Lent
-openOver count xs = lent (starts (dirFrom 0 xs)) (keeping (state count 0 0 0) (replicate 10 0) (replicate 20 0) (replicate 10 0))
+-- how many bytes and numbers the lent buffers have
+pub record Buffers : Type 0 where
+  pub text : ℕ
+  pub names : ℕ
+  pub rows : ℕ
+
+abbrev pub small : Buffers
+small = record { text = 10; names = 20; rows = 10 }
+
+-- nothing kept yet
+abbrev pub empty : Buffers → ℕ → Kept
+empty b count = keeping (state count 0 0 0) (replicate (b .text) 0) (replicate (b .names) 0) (replicate (b .rows) 0)
+
+-- what opening such a block leaves
+unfoldable pub openOver : Buffers → ℕ → List Stream → Lent
+openOver b count xs = lent (starts (dirFrom 0 xs)) (empty b count)
 
 -- what reading came to: the answer, and the text that is kept
 pub record Told : Type 0 where
@@ -88,5 +101,8 @@ unfoldable pub told : Outcome → Told
 told o = record { answer = o .answer; text = take (o .kept .state .text) (o .kept .text) }
 
 -- the read after n reads, in a block of n + 1 names
-unfoldable pub readOver : ℕ → List Stream → Told
-readOver n xs = told (read (bytesIn xs) (dirFrom 0 xs) (run (bytesIn xs) (dirFrom 0 xs) (openOver (n + 1) xs) (replicate n reading)))
+unfoldable pub readIn : Buffers → ℕ → List Stream → Told
+readIn b n xs = told (read (bytesIn xs) (dirFrom 0 xs) (run (bytesIn xs) (dirFrom 0 xs) (openOver b (n + 1) xs) (replicate n reading)))
+
+abbrev pub readOver : ℕ → List Stream → Told
+readOver n xs = readIn small n xs

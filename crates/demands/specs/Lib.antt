@@ -8,5 +8,7 @@ pub mod Untouched
 pub mod Done
 pub mod Right
 pub mod Adds
+pub mod Afresh
+pub mod AfreshCases
 pub mod Traces
 pub mod Boundary

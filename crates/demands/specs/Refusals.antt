@@ -80,14 +80,14 @@ pub record Heads (s : Source) (t i d : ℕ) : Type 0 where
   pub type : byteIn s 0 typeStream ≡ byte.Value t past
   pub distance : fourIn s 0 i ≡ four.Value d behind
 
--- rule 2 for DUP and for every later name
+-- rule 2 for DUP, and for DIFF with an earlier name
 abbrev pub Back : ℕ → ℕ → Type 0
 Back n d = (1 ≤ d) × (d ≤ n)
 
--- rule 2: which distances name n may have with which type
+-- rule 2: which distances name n may have with which type; DIFF 0 of every name by C-11
 pub data Rule2 (n : ℕ) : ℕ → ℕ → Type 0 where
   dup-back : (d : ℕ) → Back n d → Rule2 n dupNumber d
-  diff-none : n ≡ 0 → Rule2 n diffNumber 0
+  diff-none : Rule2 n diffNumber 0
   diff-back : (d : ℕ) → Back n d → Rule2 n diffNumber d
 
 -- what position 0 is refused for: no type, another type, no distance, or one outside rule 2
@@ -97,9 +97,9 @@ pub data HeadStop (s : Source) (n : ℕ) : ℕ → Type 0 where
   no-distance : (t i : ℕ) (c : Cursor) → byteIn s 0 typeStream ≡ byte.Value t c → IsHead t i → fourIn s 0 i ≡ four.Short → HeadStop s n 2
   off-rule : (t i d : ℕ) → Heads s t i d → IsHead t i → (Rule2 n t d → ⊥) → HeadStop s n 4
 
--- the rows that a DIFF goes by: none for name 0, else those of the name so far back, whose entry and rows all point inside
+-- the rows that a DIFF goes by: none where its distance is 0 (C-11), else those of the name so far back, whose entry and rows all point inside
 pub data Leans (s : Source) (m : Kept) : ℕ → Earlier → Type 0 where
-  on-none : Heads s diffNumber diffStream 0 → m .state .names ≡ 0 → Leans s m 0 (none m)
+  on-none : Heads s diffNumber diffStream 0 → Leans s m 0 (none m)
   on-earlier : (d : ℕ) → Heads s diffNumber diffStream d → Back (m .state .names) d → EntryInside (m .state) (m .rows) (entryBack m d) → Leans s m d (rowsOf m (entryBack m d))
 
 -- how a name comes about, by rule 3 or 4: its text, rows and cursors, its first row, number of rows and distance
@@ -130,6 +130,10 @@ pub data ReadCase (s : Source) (m : Kept) : Outcome → Type 0 where
   ends : Ready s m → m .state .names ≡ m .state .count → allAtEnd (s .dir) (s .cur) ≡ true → ReadCase s m (outcome answer.Done (s .cur) m)
   keeps : (x : Draft) (first rows d : ℕ) → Ready s m → (m .state .names ≡ m .state .count → ⊥) → Origin s m x first rows d → roomFor m x ≡ true
       → ReadCase s m (kept m x first rows d)
+
+-- the numbers that the walk over a name's tokens can refuse with: 2, 3 and 5 to 8
+abbrev pub ByToken : ℕ → Type 0
+ByToken r = (2 ≤ r) × ((r ≤ 8) × (r ≡ 4 → ⊥))
 
 -- the numbers that the rules and the room can refuse with: 2 to 9
 abbrev pub ByRule : ℕ → Type 0

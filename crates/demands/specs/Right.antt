@@ -2,6 +2,7 @@
 use Prim.Native.Nat.{ℕ, _+_, _≤_, _<_}
 use mathlib.Core.Path.{_≡_}
 use mathlib.Core.List.{List}
+use mathlib.Core.Logic.{_⊎_}
 use lib.ListN.{getD}
 use Rattle.block.specs.declared.Refusal.{Refusal}
 use Rattle.block.specs.declared.Refusal.the-variants as refusal
@@ -29,12 +30,12 @@ pub record Home (m : Kept) (j : ℕ) : Type 0 where
   pub starts : entryAt (m .names) name .start ≤ rowAt (m .rows) j .start
   pub ends : rowAt (m .rows) j .start + rowAt (m .rows) j .length ≤ entryAt (m .names) name .start + entryAt (m .names) name .length
 
--- a distance of name i: 0 for name 0, and for a later name such that the reference points to a lower number
+-- a distance of name i: 0 is no reference (C-11), and one of 1 or more is a reference that points to a lower number
 abbrev pub Refers : ℕ → ℕ → Type 0
-Refers i d = (i ≡ 0 → d ≡ 0) × (1 ≤ i → (1 ≤ d) × (d ≤ i))
+Refers i d = (d ≡ 0) ⊎ ((1 ≤ d) × (d ≤ i))
 
 -- a name: its text of 1 to 254 bytes and the byte 10 after it are in the used part, and so are its 1 to 127 rows;
--- those, printed end to end, are its text; its reference points to a lower number
+-- those, printed end to end, are its text; its reference, if it has one, points to a lower number
 pub record NameRight (m : Kept) (i : ℕ) : Type 0 where
   pub text : TextInside (m .state) (entryAt (m .names) i)
   pub rows : RowsInside (m .state) (entryAt (m .names) i)
@@ -67,7 +68,7 @@ pub data Sane (l : Lent) : Refusal → Type 0 where
 
 -- all of demand 3, for a memory z that came from a fresh start l
 pub record Demand3 (bytes dir : List ℕ) (l z : Lent) : Type 0 where
-  -- every kept name's tokens, printed end to end, are that name; each later name's reference points to a lower number
+  -- every kept name's tokens, printed end to end, are that name; each reference, a distance of 1 or more (C-11), points to a lower number
   pub right : Right bytes dir z
   -- every claim is answered by the name's bytes, or refused as not yet read
   pub claims : (number : ℕ) (claim : List ℕ) → Judged z number claim

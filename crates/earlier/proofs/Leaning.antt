@@ -5,6 +5,7 @@ use mathlib.Core.Bool.{true, false, Bool}
 use mathlib.Core.List.{List, []}
 use native.Mathlib.Omega.{arith}
 use borrow.Author.Tests.{eq-eqb, ne-eqb}
+use Rattle.base.specs.Choice.{pick}
 use Rattle.base.proofs.Choice.{took, left}
 use Rattle.block.specs.declared.State.{State}
 use Rattle.kept.specs.declared.Entry.{Entry}
@@ -21,8 +22,8 @@ back-entry m d = ap (entryAt (m .names)) (omega arith)
 -- in a contract's direction
 module _ (st : State) (names rows : List ℕ) (d : ℕ) where
   pub leans-none : d ≡ 0 → back.Rows 0 0 ≡ backOf (keeping st [] names rows) d
-  unfolding backOf
-  leans-none z = took _ _ (eq-eqb _ _ z) refl
+  unfolding backOf pick
+  leans-none z = rw (eq-eqb d 0 z)
 
   module _ (z : d ≡ 0 → ⊥) {i : ℕ} {b : Bool} (f : b ≡ earlierFits (keeping st [] names rows) i) (s : i ≡ st .names - d) where
     far-fits : {t : Bool} → b ≡ t → earlierFits (keeping st [] names rows) (st .names - d) ≡ t

@@ -4,7 +4,7 @@ use mathlib.Core.Path.{_≡_, refl, sym, ap, _∙_}
 use mathlib.Core.Bool.{true, false}
 use mathlib.Core.List.{List}
 use native.Mathlib.Omega.{arith}
-use borrow.Author.Tests.{eq-eqb, ne-eqb, leb-true, eqb-true}
+use borrow.Author.Tests.{eq-eqb, ne-eqb, leb-true}
 use lib.Dec.{leb, eqb}
 use lib.ListN.{set}
 use Rattle.base.specs.Choice.{pick}
@@ -102,12 +102,6 @@ never-both q = let z : _≡_ {A = ℕ} 0 1 = cc in omega arith
 dup-within : (d n : ℕ) → dupFits d n ≡ true → (1 ≤ d) × (d ≤ n)
 dup-within d n q = let b = both-true (leb 1 d) (leb d n) q in (leb-true 1 d (b .0), leb-true d n (b .1))
 
-diff-within : (d n : ℕ) → diffFits d n ≡ true → d ≤ n
-diff-within d n q =
-    by-test (eqb n 0)
-    (λ y. let z : d ≡ 0 = eqb-true d 0 (sym (pick-true (eqb d 0) (dupFits d n) y) ∙ q) in omega arith)
-    (λ y. dup-within d n (sym (pick-false (eqb d 0) (dupFits d n) y) ∙ q) .1)
-
 module _ (s : Source) (n : ℕ) (d : Distance) where
   dup-four : (f : NextFour) → distanceIn s dupStream ≡ f → dupHead n f ≡ head.Dup d → ((1 ≤ d .0) × (d .0 ≤ n)) × (cursorOf (s .cur) (spanOf 0 dupStream) + 4 ≤ endOf (s .dir) (spanOf 0 dupStream))
   unfolding dupHead
@@ -130,7 +124,7 @@ module _ (s : Source) (n : ℕ) (d : Distance) where
       let w = sym (pick-true (head.Diff (record { 0 = v })) (head.Refused 4) y) ∙ r in
       let e : record { 0 = v } ≡ d = cc in
       let k : v ≡ d .0 = ap (λ (x : Distance). x .0) e in
-      let b = diff-within v n y in
+      let b = leb-true v n y in
       (omega arith, four-reach s 0 diffStream q .1 .high))
       (λ y. absurd (never-diff (sym (pick-false (head.Diff (record { 0 = v })) (head.Refused 4) y) ∙ r)))
   diff-four four.Short q r = absurd (never-diff r)

@@ -20,9 +20,9 @@ use Rattle.heads.specs.declared.Head.the-variants as head
 abbrev pub dupFits : ℕ → ℕ → Bool
 dupFits d n = both (leb 1 d) (leb d n)
 
--- DIFF needs 0 for name 0, and 1 to n for every later name
+-- DIFF needs a distance from 0 to n, 0 meaning no earlier name (C-11)
 abbrev pub diffFits : ℕ → ℕ → Bool
-diffFits d n = pick (eqb n 0) (eqb d 0) (both (leb 1 d) (leb d n))
+diffFits d n = leb d n
 
 unfoldable pub dupHead : ℕ → NextFour → Head
 dupHead n (four.Value d c) = pick (dupFits d n) (head.Dup (record { 0 = d })) (head.Refused 4)

@@ -20,13 +20,12 @@ fn dup_fits(d: Distance, n: u32) -> bool
     if 1 <= d.0 { d.0 <= n } else { false }
 }
 
+// A distance of 0 is no earlier name, which every name may have (C-11).
 fn diff_fits(d: Distance, n: u32) -> bool
     ensures { λ r. ⌜ r ≡ diffFits (d .0) n ⌝ }
 {
-    if n == 0 {
-        return d.0 == 0;
-    }
-    dup_fits(d, n)
+    let distance = d.0;
+    distance <= n
 }
 
 fn dup_head(n: u32, found: NextFour) -> Head

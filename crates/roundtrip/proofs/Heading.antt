@@ -1,12 +1,9 @@
 -- Position 0 read back: DUP or DIFF and its distance.
 use Prim.Native.Nat.{ℕ, _+_, _^_, _≤_, _<_}
 use mathlib.Core.Path.{_≡_, refl, ap, _∙_}
-use mathlib.Core.Bool.{true}
 use mathlib.Core.List.{List, [], _∷_}
 use native.Mathlib.Omega.{arith}
 use borrow.Author.Tests.{le-leb, eq-eqb, ne-eqb}
-use lib.Dec.{leb, eqb}
-use Rattle.base.specs.Choice.{pick, both}
 use Rattle.base.proofs.Choice.{pick-true, pick-false, both-of}
 use Rattle.spans.specs.declared.NextByte.the-variants as byte
 use Rattle.spans.specs.declared.NextFour.the-variants as four
@@ -51,20 +48,12 @@ module _ (bytes dir cur : List ℕ) (n d : ℕ) (small : d < 2 ^ 32) (rest : Lis
       ∙ ap (dupHead n) (distance-there bytes dir cur dupNumber dupStream d (omega arith) (omega arith) small rest l)
       ∙ pick-true _ _ (both-of (le-leb _ _ h) (le-leb _ _ k))
 
-  diff-head : pick (eqb n 0) (eqb d 0) (both (leb 1 d) (leb d n)) ≡ true → Left bytes dir cur (put (spanOf 0 typeStream) (diffNumber ∷ []) ∷ put (spanOf 0 diffStream) (fourBytes d) ∷ rest)
+  pub diff-head : d ≤ n → Left bytes dir cur (put (spanOf 0 typeStream) (diffNumber ∷ []) ∷ put (spanOf 0 diffStream) (fourBytes d) ∷ rest)
       → headOf (source bytes dir cur) n ≡ head.Diff (record { 0 = d })
   unfolding headOf typedHead diffHead
-  diff-head t l =
+  diff-head h l =
       ap (typedHead (source bytes dir cur) n) (type-there bytes dir cur diffNumber diffStream d (omega arith) (omega arith) small rest l)
       ∙ pick-false _ _ (ne-eqb diffNumber dupNumber (λ (q : diffNumber ≡ dupNumber). omega arith))
       ∙ pick-true _ _ (eq-eqb diffNumber diffNumber refl)
       ∙ ap (diffHead n) (distance-there bytes dir cur diffNumber diffStream d (omega arith) (omega arith) small rest l)
-      ∙ pick-true _ _ t
-
-  pub first-head : n ≡ 0 → d ≡ 0 → Left bytes dir cur (put (spanOf 0 typeStream) (diffNumber ∷ []) ∷ put (spanOf 0 diffStream) (fourBytes d) ∷ rest)
-      → headOf (source bytes dir cur) n ≡ head.Diff (record { 0 = d })
-  first-head a b l = diff-head (pick-true _ _ (eq-eqb n 0 a) ∙ eq-eqb d 0 b) l
-
-  pub later-head : 1 ≤ d → d ≤ n → Left bytes dir cur (put (spanOf 0 typeStream) (diffNumber ∷ []) ∷ put (spanOf 0 diffStream) (fourBytes d) ∷ rest)
-      → headOf (source bytes dir cur) n ≡ head.Diff (record { 0 = d })
-  later-head h k l = diff-head (pick-false _ _ (ne-eqb n 0 (λ q. omega arith)) ∙ both-of (le-leb _ _ h) (le-leb _ _ k)) l
+      ∙ pick-true _ _ (le-leb _ _ h)

@@ -4,7 +4,7 @@ use mathlib.Core.Path.{_≡_, refl, sym, ap, _∙_, subst}
 use mathlib.Core.Bool.{true, false}
 use mathlib.Core.List.{List, [], _∷_, _++_}
 use native.Mathlib.Omega.{arith}
-use borrow.Author.Tests.{eqb-true, eqb-false, eq-eqb, ne-eqb}
+use borrow.Author.Tests.{eqb-false, eq-eqb, ne-eqb}
 use lib.ListN.{length}
 use Rattle.base.specs.Choice.{pick}
 use Rattle.base.specs.Memory.{part}
@@ -51,7 +51,7 @@ use Rattle.roundtrip.specs.Rows.{splitRows, tokensIn}
 use Rattle.roundtrip.specs.Room.{textWanted, rowsAdded, rowsFor}
 use Rattle.roundtrip.proofs.Eating.{Left, left-open, left-none}
 use Rattle.roundtrip.proofs.Pieces.{rows-out, count-out}
-use Rattle.roundtrip.proofs.Heading.{head-past, dup-head, first-head, later-head}
+use Rattle.roundtrip.proofs.Heading.{head-past, dup-head, diff-head}
 use Rattle.roundtrip.proofs.Spelling.{Good, RowsOf, Spelt, name-back, length-split}
 use Rattle.roundtrip.proofs.Keeping.{EntryIs, entry-text, after, kept-back, after-text, after-is, after-stays, after-texts, after-names, after-rows, rows-new, rows-old}
 
@@ -267,13 +267,13 @@ module _ (bytes dir cur : List ℕ) (m : Kept) (before : List ℕ) (directory : 
           (enough d (spelt .text) f c (m .state .rows) (d .count) distance) (m .state .rows) (d .count) distance rows count)
           (omega arith)
 
-    first-back : k ≡ 0 → anew k ≡ true → ReadBack bytes dir cur m before s ss
+    first-back : anew k ≡ true → ReadBack bytes dir cur m before s ss
     unfolding referencePuts headPuts headedOf none
-    first-back z a =
+    first-back a =
         let l : Left bytes dir cur (put (spanOf 0 typeStream) (diffNumber ∷ []) ∷ put (spanOf 0 diffStream) (fourBytes 0) ∷ (tokenPuts s 1 (choicesOf [] s) ++ putsFrom (k + 1) s ss)) =
         puts _ (puts-first k before s a) in
         diff-back 0 (none m) [] (every-none isAllowed) (rows-nothing (m .text) (m .rows) (m .state .text)) (added-first k before s a)
-        (headed (head.Diff (record { 0 = 0 })) (first-head bytes dir cur k 0 (omega arith) (tokenPuts s 1 (choicesOf [] s) ++ putsFrom (k + 1) s ss) z refl l)
+        (headed (head.Diff (record { 0 = 0 })) (diff-head bytes dir cur k 0 (omega arith) (tokenPuts s 1 (choicesOf [] s) ++ putsFrom (k + 1) s ss) (omega arith) l)
         ∙ pick-true _ _ (eq-eqb 0 0 refl))
         (head-past bytes dir cur diffNumber diffStream 0 (omega arith) (omega arith) (omega arith) (tokenPuts s 1 (choicesOf [] s) ++ putsFrom (k + 1) s ss) l)
 
@@ -284,7 +284,7 @@ module _ (bytes dir cur : List ℕ) (m : Kept) (before : List ℕ) (directory : 
         puts _ (puts-diff k before s a q) in
         let was = r .last h in
         diff-back 1 (rowsOf m (entryBack m 1)) before (was .0 .allowed) (was .1 .rows) (added-diff k before s a q)
-        (headed (head.Diff (record { 0 = 1 })) (later-head bytes dir cur k 1 (omega arith) (tokenPuts s 1 (choicesOf before s) ++ putsFrom (k + 1) s ss) (omega arith) h l)
+        (headed (head.Diff (record { 0 = 1 })) (diff-head bytes dir cur k 1 (omega arith) (tokenPuts s 1 (choicesOf before s) ++ putsFrom (k + 1) s ss) h l)
         ∙ pick-false _ _ (ne-eqb 1 0 (λ (w : 1 ≡ 0). omega arith)) ∙ pick-true _ _ (r .fits (k - 1) (omega arith)))
         (head-past bytes dir cur diffNumber diffStream 1 (omega arith) (omega arith) (omega arith) (tokenPuts s 1 (choicesOf before s) ++ putsFrom (k + 1) s ss) l)
 
@@ -293,7 +293,7 @@ module _ (bytes dir cur : List ℕ) (m : Kept) (before : List ℕ) (directory : 
     unfolding anew
     read-back =
         by-test (anew k)
-        (λ a. first-back (eqb-true k 0 a) a)
+        first-back
         (λ a.
         let z : k ≡ 0 → ⊥ = eqb-false k 0 a in
         let h : 1 ≤ k = omega (arith, z) in

@@ -122,6 +122,26 @@ fn a_damaged_block_keeps_the_names_before() {
 }
 
 #[test]
+fn a_later_name_may_start_afresh() {
+    // Behind the two types of position 0 are the two distances, so the second begins at byte 6.
+    let afresh = |input| {
+        let block = written(input);
+        let mut bytes = block.bytes().to_vec();
+        assert_eq!(bytes[6..10], [1, 0, 0, 0]);
+        bytes[6] = 0;
+        Block::new(bytes, block.directory().to_vec(), 2)
+    };
+    let block = afresh(b"a\nb\n");
+    let mut board = opened(&block);
+    assert_eq!(board.read_all(), Ok(2));
+    assert!(board.names().eq([b"a", b"b"]));
+    // Its MATCH of the `a` has nothing to lean on.
+    let leaning = afresh(b"a1\na2\n");
+    let refused = refusal(Reason::NoRow, Some(1));
+    assert_eq!(opened(&leaning).read_all(), Err(refused));
+}
+
+#[test]
 fn a_count_below_the_names_leaves_bytes() {
     let block = written(b"a1\na2\n");
     let fewer = Block::new(block.bytes().to_vec(), block.directory().to_vec(), 1);

@@ -1,4 +1,4 @@
-//! Rule 2: which distances a name may have and which name they lead to.
+//! Rule 2, as C-11 reads it: which distances a name may have and which name they lead to.
 
 use crate::refusal::Reason;
 
@@ -19,10 +19,10 @@ impl Lead {
     }
 }
 
-/// The number of the earlier name; none for name 0, which has DIFF 0.
+/// The number of the earlier name; DIFF 0, which every name may have, means none.
 pub fn earlier(name: u32, lead: Lead, distance: u32) -> Result<Option<u32>, Reason> {
-    match (lead, name, distance) {
-        (Lead::Diff, 0, 0) => Ok(None),
+    match (lead, distance) {
+        (Lead::Diff, 0) => Ok(None),
         _ if (1..=name).contains(&distance) => Ok(Some(name - distance)),
         _ => Err(Reason::Distance),
     }

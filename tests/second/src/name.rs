@@ -35,13 +35,19 @@ impl NewName {
     }
 }
 
-/// Rules 1 to 4, with 2 to 8 and the 13 that comes after 4.
-pub fn read(spans: &mut Spans<'_>, number: u32, tables: &Tables<'_>) -> Result<NewName, Reason> {
+/// Rule 1: the type at position 0 and the distance.
+pub fn head(spans: &mut Spans<'_>) -> Result<(Lead, u32), Reason> {
     let lead = Lead::of_type(spans.byte(0, Stream::Type)?)?;
     let distance = match lead {
         Lead::Dup => spans.four(0, Stream::Dup)?,
         Lead::Diff => spans.four(0, Stream::Diff)?,
     };
+    Ok((lead, distance))
+}
+
+/// Rules 1 to 4, with 2 to 8 and the 13 that comes after 4.
+pub fn read(spans: &mut Spans<'_>, number: u32, tables: &Tables<'_>) -> Result<NewName, Reason> {
+    let (lead, distance) = head(spans)?;
     let earlier = match distance::earlier(number, lead, distance)? {
         Some(earlier) => Some(tables.earlier(earlier)?),
         None => None,

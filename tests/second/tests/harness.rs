@@ -3,13 +3,17 @@
 #![cfg(not(feature = "linked"))]
 
 use second::calls::{Calls, Second};
-use second::cases::{edges, large, run};
+use second::cases::{edges, large, make, run, FAMILIES};
 use second::claim::KeptText;
-use second::compare::{compare, Tally};
-use second::directory::Block;
+use second::compare::{compare, Case, Tally};
+use second::directory::{place, Block, Spans, Stream, LAST_POSITION};
+use second::distance::Lead;
 use second::kept::Tables;
-use second::refusal::{unpack, DONE};
-use std::collections::BTreeSet;
+use second::memory::{Call, Memory};
+use second::name::head;
+use second::refusal::{pack, unpack, Reason, DONE};
+use second::token::Type;
+use std::collections::{BTreeMap, BTreeSet};
 
 /// Every answer that each call can give; from its own opening a whole read meets no 11 and no 13.
 const ANSWERS: [(&str, &[u32]); 5] = [
@@ -23,19 +27,168 @@ const ANSWERS: [(&str, &[u32]); 5] = [
 #[test]
 fn second_program_beside_itself_meets_every_answer() {
     let tally = run(&Second, &Slip(NO_SLIP), 1).unwrap();
-    let possible = ANSWERS
-        .into_iter()
-        .flat_map(|(call, codes)| codes.iter().map(move |code| (call, *code)));
-    let met: BTreeSet<(&str, u32)> = tally.keys().copied().collect();
-    assert_eq!(met, possible.collect(), "{tally:?}");
+    assert_all_met(&ANSWERS, &tally);
     assert!(tally.values().sum::<u64>() > 300_000, "{tally:?}");
+}
+
+/// Each call met just the answers that stand beside it.
+fn assert_all_met<A>(answers: &[(&'static str, &[A])], tally: &BTreeMap<(&'static str, A), u64>)
+where
+    A: Copy + Ord + std::fmt::Debug,
+{
+    let mut possible = BTreeSet::new();
+    for (call, answers) in answers {
+        possible.extend(answers.iter().map(|answer| (*call, *answer)));
+    }
+    let met: BTreeSet<_> = tally.keys().copied().collect();
+    assert_eq!(met, possible, "{tally:?}");
+}
+
+/// What fresh starts add to the answers of a read, single or of a whole block.
+const FRESH_READS: &[&str] = &[
+    "a fresh name kept",
+    "a DIFF on a fresh name kept",
+    "a DUP of a fresh name kept",
+    "a name past a fresh name kept",
+    "4 for DUP 0",
+    "4 for a distance above the name's number",
+    "5 by MATCH in a fresh name",
+    "5 by DDELTA in a fresh name",
+    "5 by DDELTA0 in a fresh name",
+    "5 by a delta without its byte in a fresh name",
+];
+
+/// By call; only a single read can find its memory changed.
+const FRESH_ANSWERS: [(&str, &[&str]); 4] = [
+    ("read_block", FRESH_READS),
+    ("read", FRESH_READS),
+    (
+        "read",
+        &[
+            "a fresh name kept over a damaged one",
+            "a fresh name kept by a distance read again",
+            "5 by a distance read again",
+            "5 in a fresh name over a damaged one",
+        ],
+    ),
+    ("claim", &["a fresh name denied", "a fresh name confirmed"]),
+];
+
+#[test]
+fn the_family_of_fresh_starts_meets_every_answer_of_its_own() {
+    let mut fresh = FAMILIES.iter().filter(|family| family.word == "fresh");
+    let family = fresh.next().unwrap();
+    let mut tally = BTreeMap::new();
+    for number in 0..family.cases {
+        let Case { mut memory, calls } = make(family, number);
+        for call in &calls {
+            let answer = memory.ask(call);
+            for words in met(call, answer, &mut memory) {
+                *tally.entry((call.word(), words)).or_default() += 1;
+            }
+        }
+    }
+    assert_all_met(&FRESH_ANSWERS, &tally);
+}
+
+/// What an answer has to do with fresh starts, told by the memory that its call left.
+fn met(call: &Call, (code, value): (u32, u32), memory: &mut Memory) -> Vec<&'static str> {
+    let kept = memory.state_numbers()[1];
+    match (call, code) {
+        (Call::Read, 0) => met_by_kept(memory, value),
+        (Call::ReadBlock { .. }, DONE) => (0..kept)
+            .flat_map(|number| met_by_kept(memory, number))
+            .collect(),
+        (Call::Read | Call::ReadBlock { .. }, 4 | 5) => {
+            Vec::from_iter(met_by_refused(memory, code))
+        }
+        (Call::Claim { number, .. }, 0) if is_fresh(memory, *number) => {
+            vec![["a fresh name denied", "a fresh name confirmed"][value as usize]]
+        }
+        _ => Vec::new(),
+    }
+}
+
+/// A later name that has no earlier one.
+fn is_fresh(memory: &Memory, number: u32) -> bool {
+    number > 0 && memory.entry(number).distance == 0
+}
+
+fn met_by_kept(memory: &mut Memory, number: u32) -> Vec<&'static str> {
+    if is_fresh(memory, number) {
+        return vec![met_by_fresh(memory, number)];
+    }
+    let entry = memory.entry(number);
+    let earlier = number - entry.distance;
+    let on = if memory.entry(earlier).first_row == entry.first_row {
+        "a DUP of a fresh name kept"
+    } else {
+        "a DIFF on a fresh name kept"
+    };
+    let past = (earlier + 1..number).any(|between| is_fresh(memory, between));
+    let on = is_fresh(memory, earlier).then_some(on);
+    let past = past.then_some("a name past a fresh name kept");
+    on.into_iter().chain(past).collect()
+}
+
+fn met_by_fresh(memory: &mut Memory, number: u32) -> &'static str {
+    let (block, cursors, tables) = memory.to_read();
+    if tables.earlier(number - 1).is_err() {
+        "a fresh name kept over a damaged one"
+    } else if read_of_diff(block, cursors) == 4 {
+        "a fresh name kept by a distance read again"
+    } else {
+        "a fresh name kept"
+    }
+}
+
+/// How many bytes of the DIFF span were read; the first four are name 0's.
+fn read_of_diff(block: Block<'_>, cursors: &[u32]) -> u32 {
+    let diff = place(0, Stream::Diff);
+    cursors[diff] - block.directory[2 * diff]
+}
+
+/// For 4 and 5, which leave the name's bytes unread.
+fn met_by_refused(memory: &mut Memory, code: u32) -> Option<&'static str> {
+    let number = memory.state_numbers()[1];
+    let (block, cursors, tables) = memory.to_read();
+    let mut spans = Spans::new(block, cursors).ok()?;
+    match (code, head(&mut spans).ok()?) {
+        (4, (Lead::Dup, 0)) => Some("4 for DUP 0"),
+        (4, (_, distance)) if distance > number => Some("4 for a distance above the name's number"),
+        (5, (Lead::Diff, 0)) if number > 0 => Some(if tables.earlier(number - 1).is_err() {
+            "5 in a fresh name over a damaged one"
+        } else if read_of_diff(block, cursors) == 0 {
+            "5 by a distance read again"
+        } else {
+            met_by_five(&mut spans)?
+        }),
+        _ => None,
+    }
+}
+
+/// By the first type of a fresh name that leans.
+fn met_by_five(spans: &mut Spans<'_>) -> Option<&'static str> {
+    let leaning = |position| {
+        let kind = Type::of(spans.byte(position, Stream::Type).ok()?).ok()?;
+        let leans = [Type::Match, Type::Ddelta, Type::Ddelta0].contains(&kind);
+        leans.then_some((position, kind))
+    };
+    let (position, kind) = (1..LAST_POSITION).find_map(leaning)?;
+    let mut has = |stream| spans.byte(position, stream).is_ok();
+    Some(match kind {
+        Type::Match => "5 by MATCH in a fresh name",
+        Type::Ddelta if has(Stream::Ddelta) => "5 by DDELTA in a fresh name",
+        Type::Ddelta0 if has(Stream::Ddelta0) => "5 by DDELTA0 in a fresh name",
+        _ => "5 by a delta without its byte in a fresh name",
+    })
 }
 
 /// The second program with one slip, chosen by number.
 struct Slip(u32);
 
 /// How many slips there are below.
-const SLIPS: u32 = 10;
+const SLIPS: u32 = 14;
 /// The number of none of them.
 const NO_SLIP: u32 = SLIPS;
 
@@ -50,6 +203,9 @@ impl Calls for Slip {
     }
 
     fn read(&self, block: Block<'_>, cursors: &mut [u32], mut tables: Tables<'_>) -> u64 {
+        if let Some(answer) = self.read_at_distance_0(block, cursors, tables.lend()) {
+            return answer;
+        }
         let before = cursors.to_vec();
         let [_, _, text, rows] = *tables.state;
         let answer = Second.read(block, cursors, tables.lend());
@@ -109,6 +265,48 @@ impl Calls for Slip {
         }
         answer
     }
+}
+
+impl Slip {
+    /// The slips of reading a later name whose distance is 0.
+    fn read_at_distance_0(
+        &self,
+        block: Block<'_>,
+        cursors: &mut [u32],
+        tables: Tables<'_>,
+    ) -> Option<u64> {
+        let number = tables.judge().ok()?.kept;
+        block.judge(cursors.len()).ok()?;
+        let (lead, distance) = head(&mut Spans::new(block, cursors).ok()?).ok()?;
+        if number == 0 || distance > 0 {
+            return None;
+        }
+        let refused = |reason: Reason| Some(pack(Err(reason.at(number))));
+        match (self.0, lead) {
+            (10, Lead::Diff) => refused(Reason::Distance),
+            (11, Lead::Diff) if tables.earlier(number - 1).is_err() => refused(Reason::Outside),
+            (12, Lead::Diff) => Some(read_one_back(block, cursors, tables, Stream::Diff)),
+            (13, Lead::Dup) => Some(read_one_back(block, cursors, tables, Stream::Dup)),
+            _ => None,
+        }
+    }
+}
+
+/// A read with the distance 1 in the place of 0, though 0 is what it keeps.
+fn read_one_back(
+    block: Block<'_>,
+    cursors: &mut [u32],
+    mut tables: Tables<'_>,
+    stream: Stream,
+) -> u64 {
+    let mut bytes = block.bytes.to_vec();
+    bytes[cursors[place(0, stream)] as usize] = 1;
+    let bytes = &bytes;
+    let answer = Second.read(Block { bytes, ..block }, cursors, tables.lend());
+    if let (0, number) = unpack(answer) {
+        tables.names[5 * number as usize + 4] = 0;
+    }
+    answer
 }
 
 #[test]

@@ -133,10 +133,13 @@ fn seven_before_five_and_two() {
 #[test]
 fn four_for_distances() {
     let first = name_0().char(b'a').end();
-    for distance in [0, 2, 1 + (1 << 24), u32::MAX] {
+    for distance in [2, 1 + (1 << 24), u32::MAX] {
         assert_eq!(refused(&first.clone().dup(distance)), (4, 1));
         assert_eq!(refused(&first.clone().diff(distance)), (4, 1));
     }
+    assert_eq!(refused(&first.clone().dup(0)), (4, 1));
+    // DIFF 0 is a distance that every name may have; what is missing is its first type.
+    assert_eq!(refused(&first.diff(0)), (2, 1));
 }
 
 #[test]

@@ -9,17 +9,18 @@ use second::directory::MOST_NAMES;
 use second::memory::{Call, Memory};
 use second::refusal::DONE;
 
-/// Every kept name is its rows printed end to end, and leans on a lower number.
-fn assert_kept_well(memory: &Memory) {
+/// Every kept name is its rows printed end to end, and has the distance that it was put at, none
+/// of which is above its number.
+fn assert_kept_well(memory: &Memory, distances: &[u32]) {
     let [_, kept, text_used, rows_used] = memory.state_numbers();
     let mut text_end = 0;
     let mut row_end = 0;
-    for number in 0..kept {
+    for (number, distance) in (0..kept).zip(distances) {
         let entry = memory.entry(number);
         assert_eq!(entry.text_start, text_end);
         text_end += entry.text_length + 1;
         assert_eq!(memory.text.get()[text_end as usize - 1], b'\n');
-        assert!(entry.distance <= number && (number == 0) == (entry.distance == 0));
+        assert!(entry.distance == *distance && entry.distance <= number);
         let rows = entry.first_row..entry.first_row + entry.row_count;
         let texts: Vec<u8> = rows.clone().flat_map(|row| text_of(memory, row)).collect();
         assert_eq!(texts, memory.kept_names()[number as usize]);
@@ -53,7 +54,7 @@ fn planned_blocks_read_as_they_were_meant() {
         let (answer, memory) = read_whole(&planned.block);
         assert_eq!(answer, (DONE, planned.block.count), "seed {seed}");
         assert_eq!(memory.kept_names(), planned.names, "seed {seed}");
-        assert_kept_well(&memory);
+        assert_kept_well(&memory, &planned.distances);
         reach.add(&planned.block, &memory);
     }
     reach.assert_far();
@@ -66,6 +67,9 @@ struct Reach {
     most_rows: u32,
     longest_chain: u32,
     distances_above_1: usize,
+    fresh_starts: usize,
+    names_on_fresh_ones: usize,
+    names_past_fresh_ones: usize,
     strings_of_digits: usize,
     empty_strings: usize,
     numbers_of_ten_digits: usize,
@@ -83,7 +87,11 @@ impl Reach {
             self.most_rows = self.most_rows.max(entry.row_count);
             self.distances_above_1 += usize::from(entry.distance > 1);
             let earlier = number - entry.distance;
-            let is_dup = number > 0 && memory.entry(earlier).first_row == entry.first_row;
+            let is_fresh = |number| number > 0 && memory.entry(number).distance == 0;
+            self.fresh_starts += usize::from(is_fresh(number));
+            self.names_on_fresh_ones += usize::from(earlier < number && is_fresh(earlier));
+            self.names_past_fresh_ones += usize::from((earlier + 1..number).any(is_fresh));
+            let is_dup = entry.distance > 0 && memory.entry(earlier).first_row == entry.first_row;
             let chain = if is_dup {
                 chains[earlier as usize] + 1
             } else {
@@ -114,6 +122,9 @@ impl Reach {
         assert!(self.longest_chain >= 6, "{self:?}");
         let often = [
             self.distances_above_1,
+            self.fresh_starts,
+            self.names_on_fresh_ones,
+            self.names_past_fresh_ones,
             self.strings_of_digits,
             self.empty_strings,
             self.numbers_of_ten_digits,
@@ -150,7 +161,9 @@ fn written_names_read_back() {
         let answer = memory.ask(&Call::ReadBlock { count });
         assert_eq!(answer, (DONE, count), "seed {seed}");
         assert_eq!(memory.kept_names(), names, "seed {seed}");
-        assert_kept_well(&memory);
+        // The writer starts afresh at name 0 and nowhere else.
+        let distances: Vec<u32> = (0..count).map(|number| number.min(1)).collect();
+        assert_kept_well(&memory, &distances);
         rests += (0..count)
             .filter(|number| memory.entry(*number).row_count == 127)
             .count();

@@ -1,6 +1,7 @@
 -- What keeping a name adds, and that it alters nothing else.
 use Prim.Native.Nat.{ℕ}
 use mathlib.Core.Path.{_≡_, refl, ap}
+use mathlib.Core.Logic.{inr}
 use mathlib.Core.List.{[], _∷_, _++_}
 use native.Mathlib.Omega.{arith}
 use lib.ListN.{length, length-append}
@@ -29,7 +30,7 @@ entry a l f r d = record { start = a; length = l; first = f; rows = r; distance 
 
 -- rule 2 and what was taken, from how the name was made
 pub refers-made : (s : Source) (m : Kept) (x : Draft) (first rows d : ℕ) → Made s m x first rows d → Refers (m .state .names) d
-refers-made s m x first rows d (dup b n e w) = (λ z. absurd (omega arith), λ a. (omega (arith, n .0), n .1))
+refers-made s m x first rows d (dup b n e w) = inr (omega (arith, n .0), n .1)
 refers-made s m x first rows d (diff y b r w v) = r
 
 record Moved (s : Source) (m : Kept) (x : Draft) (e : Entry) : Type 0 where
@@ -39,7 +40,7 @@ record Moved (s : Source) (m : Kept) (x : Draft) (e : Entry) : Type 0 where
 
 moved-made : (s : Source) (m : Kept) (x : Draft) (first rows d : ℕ) → Made s m x first rows d → Moved s m x (entry (m .state .text) (length (x .text)) first rows d)
 unfolding nameText
-moved-made s m x first rows d (dup b n e w) = record { taken = headTakes dupStream; kind = by-dup _ refl refl; moves = w }
+moved-made s m x first rows d (dup b n e w) = record { taken = headTakes dupStream; kind = by-dup _ n refl refl; moves = w }
 moved-made s m x first rows d (diff y b r w v) = record { taken = _; kind = by-diff (x .text) (x .count) _ refl refl; moves = v }
 
 -- where its text with byte 10 and its entry stand

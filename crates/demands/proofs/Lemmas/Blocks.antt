@@ -12,12 +12,11 @@ use Rattle.base.specs.Choice.{both}
 use Rattle.base.proofs.Choice.{both-true, by-test}
 use Rattle.block.specs.Block.{spanOf, startOf, endOf, cursorOf, starts, state}
 use Rattle.block.proofs.Laws.{span-below, cursor-set-same, cursor-set-other, starts-length, starts-cursor, sound-of, opens-fresh}
-use Rattle.kept.specs.Tables.{keeping}
 use Rattle.sources.specs.Source.{source}
 use Rattle.entries.specs.Outcomes.{Outcome}
 use Rattle.inner.specs.Next.{nextOf}
 use Rattle.demands.specs.Runs.{Lent, lent, read, left, Fresh, reading, after, run}
-use Rattle.demands.specs.Cases.{Stream, bytesIn, dirFrom, inDirectory, openOver, Told, told, readOver}
+use Rattle.demands.specs.Cases.{Stream, bytesIn, dirFrom, inDirectory, Buffers, empty, openOver, Told, told, readIn}
 use Rattle.demands.proofs.Lemmas.Ways.{ready-reads}
 use Rattle.demands.proofs.Lemmas.Keeping.{Sure, fresh-sure, after-sure}
 
@@ -119,9 +118,9 @@ module _ (xs : List Stream) (ok : inDirectory xs ≡ true) where
       (λ j h. let k : j < 1290 = omega (arith, starts-length (dirFrom 0 xs)) in starts-cursor (dirFrom 0 xs) j k ∙ sym (l .start j k))
 
   -- such a block opens
-  pub opens-over : (count : ℕ) → count ≤ 65536 → Fresh (bytesIn xs) (dirFrom 0 xs) count (openOver count xs)
+  pub opens-over : (room : Buffers) (count : ℕ) → count ≤ 65536 → Fresh (bytesIn xs) (dirFrom 0 xs) count (openOver room count xs)
   unfolding openOver
-  opens-over count h =
+  opens-over room count h =
       let l : Laid 0 xs = laid xs 0 ok in
       record {
         old = curFrom 0 xs;
@@ -149,17 +148,17 @@ module _ (bytes dir : List ℕ) where
       (h .0 ∙ ap (λ (o : Outcome). nexts bytes dir n (left o)) (read-next l r), h .1)
 
 -- the same, with each cursor put at its start at once
-unfoldable pub quick : ℕ → List Stream → Told
-quick n xs =
-    let l = nexts (bytesIn xs) (dirFrom 0 xs) n (lent (curFrom 0 xs) (keeping (state (n + 1) 0 0 0) (replicate 10 0) (replicate 20 0) (replicate 10 0))) in
+unfoldable pub quick : Buffers → ℕ → List Stream → Told
+quick b n xs =
+    let l = nexts (bytesIn xs) (dirFrom 0 xs) n (lent (curFrom 0 xs) (empty b (n + 1))) in
     told (nextOf (source (bytesIn xs) (dirFrom 0 xs) (l .cur)) (l .kept))
 
-pub over : (n : ℕ) (xs : List Stream) → n < 65536 → inDirectory xs ≡ true → readOver n xs ≡ quick n xs
-unfolding readOver quick openOver
-over n xs h ok =
+pub over : (room : Buffers) (n : ℕ) (xs : List Stream) → n < 65536 → inDirectory xs ≡ true → readIn room n xs ≡ quick room n xs
+unfolding readIn quick openOver
+over room n xs h ok =
     let b : List ℕ = bytesIn xs in
     let d : List ℕ = dirFrom 0 xs in
-    let l : Lent = openOver (n + 1) xs in
-    let r = run-next b d n l (fresh-sure b d (n + 1) l (opens-over xs ok (n + 1) (omega arith))) in
+    let l : Lent = openOver room (n + 1) xs in
+    let r = run-next b d n l (fresh-sure b d (n + 1) l (opens-over xs ok room (n + 1) (omega arith))) in
     let e : l ≡ lent (curFrom 0 xs) (l .kept) = ap (λ (c : List ℕ). lent c (l .kept)) (starts-laid xs ok) in
     ap told (read-next b d (run b d l (replicate n reading)) (r .1) ∙ ap (λ (z : Lent). nextOf (source b d (z .cur)) (z .kept)) (r .0 ∙ ap (nexts b d n) e))

@@ -2,6 +2,7 @@
 use Prim.Native.Nat.{ℕ, _+_, _*_, _≤_}
 use mathlib.Core.Path.{_≡_, refl}
 use mathlib.Core.Bool.{true}
+use mathlib.Core.Logic.{inl, inr}
 use mathlib.Core.List.{[]}
 use native.Mathlib.Omega.{arith}
 use borrow.Author.Tests.{leb-true}
@@ -41,11 +42,11 @@ module _ (s : Source) (m : Kept) (r : Ready s m) where
 
   walk-made : (x : Draft) (d : ℕ) (e : Earlier) → Leans s m d e → nameOf s e (m .state .text) (headPast (s .cur) diffStream) ≡ named x → Made s m x (m .state .rows) (x .count) d
   unfolding rowsOf none
-  walk-made x d e (on-none h z) q =
-      diff-made (none m) x 0 (rows-none (m .state .text) (m .text) (m .rows) (r .counts .used)) (λ e. refl, λ a. absurd (omega arith)) q
+  walk-made x d e (on-none h) q =
+      diff-made (none m) x 0 (rows-none (m .state .text) (m .text) (m .rows) (r .counts .used)) (inl refl) q
   walk-made x d e (on-earlier b h n f) q =
       diff-made (rowsOf m (entryBack m d)) x d (rows-judged (m .state) (m .text) (m .rows) (entryBack m d) (r .counts .rowsUsed) (r .counts .used) f)
-      (λ z. absurd (omega arith), λ a. (omega (arith, n .0), n .1)) q
+      (inr (omega (arith, n .0), n .1)) q
 
   pub made : (x : Draft) (first rows d : ℕ) → Origin s m x first rows d → Made s m x first rows d
   made x first rows d (copied b h n f) = dup b n f (head-moves s (r .opened .table) dupStream (omega arith))

@@ -33,7 +33,7 @@ use Rattle.steps.specs.Steps.{valueStep, typedStep, stepAt}
 use Rattle.bars.specs.Bars.{carries, barred}
 use Rattle.names.proofs.Growing.{never-named}
 use Rattle.names.specs.Names.{Draft, draft, Named, named, refused, typeIn, grown, ended, printable, onward, nameFrom, nameOf}
-use Rattle.demands.specs.Refusals.{ByRule}
+use Rattle.demands.specs.Refusals.{ByToken}
 use Rattle.demands.proofs.Lemmas.Streams.{byte-way, four-way}
 
 -- where the text at position p ends, and where its span begins and ends
@@ -53,7 +53,7 @@ pub data Value (s : Source) (p : ℕ) : TokenType → Token → Cursor → Type 
 
 -- what can stand at position p
 pub data StepWay (s : Source) (p : ℕ) : Step → Type 0 where
-  halts : (r : ℕ) → ByRule r → StepWay s p (step.Refused r)
+  halts : (r : ℕ) → ByToken r → StepWay s p (step.Refused r)
   closes : typeIn (byteIn s p 0) ≡ type.End → StepWay s p step.End
   gives : (y : TokenType) (t : Token) (c : Cursor) → typeIn (byteIn s p 0) ≡ y → (p ≡ 128 → ⊥) → Value s p y t c → StepWay s p (step.Got t c)
 
@@ -156,25 +156,25 @@ module _ (s : Source) (e : Earlier) (used : ℕ) where
   unfolding nameOf
   trace cur x q = trace-from 128 1 (draft [] [] 0 cur) x refl q
 
-  onward-refuses : (p : ℕ) (d : Draft) (r : ℕ) (rest : Draft → Named) → ((y : Draft) → rest y ≡ refused r → ByRule r)
-      → (st : Step) → StepWay s p st → onward s e used p d st rest ≡ refused r → ByRule r
+  onward-refuses : (p : ℕ) (d : Draft) (r : ℕ) (rest : Draft → Named) → ((y : Draft) → rest y ≡ refused r → ByToken r)
+      → (st : Step) → StepWay s p st → onward s e used p d st rest ≡ refused r → ByToken r
   unfolding onward
-  onward-refuses p d r rest ih st (halts n b) = λ q. let z : n ≡ r = cc in subst ByRule z b
+  onward-refuses p d r rest ih st (halts n b) = λ q. let z : n ≡ r = cc in subst ByToken z b
   onward-refuses p d r rest ih st (closes y) =
-      pick-holds (λ (a : Named). a ≡ refused r → ByRule r) (eqb (length (d .text)) 0) _ _
+      pick-holds (λ (a : Named). a ≡ refused r → ByToken r) (eqb (length (d .text)) 0) _ _
       (λ k q. let z : _≡_ {A = ℕ} 8 r = cc in omega arith)
       (λ k q. let z : _≡_ {A = ℕ} 0 1 = cc in absurd (omega arith))
   onward-refuses p d r rest ih st (gives y t c q n v) =
-      pick-holds (λ (a : Named). a ≡ refused r → ByRule r) (printable (bytesOf (s .bytes) (e .text) t) (length (d .text))) _ _
+      pick-holds (λ (a : Named). a ≡ refused r → ByToken r) (printable (bytesOf (s .bytes) (e .text) t) (length (d .text))) _ _
       (λ k u. ih _ u)
       (λ k u. let z : _≡_ {A = ℕ} 8 r = cc in omega arith)
 
-  refuses-from : (f p : ℕ) (d : Draft) (r : ℕ) → nameFrom s e used f p d ≡ refused r → ByRule r
+  refuses-from : (f p : ℕ) (d : Draft) (r : ℕ) → nameFrom s e used f p d ≡ refused r → ByToken r
   unfolding nameFrom
   refuses-from zero p d r q = let z : _≡_ {A = ℕ} 7 r = cc in omega arith
   refuses-from (suc f) p d r q = onward-refuses p d r (nameFrom s e used f (p + 1)) (λ y u. refuses-from f (p + 1) y r u) (stepAt s e p) (step-way s e p) q
 
-  -- and a name that is refused is refused by the rules
-  pub name-refuses : (cur : List ℕ) (r : ℕ) → nameOf s e used cur ≡ refused r → ByRule r
+  -- and a name that is refused is refused by the rules for its tokens
+  pub name-refuses : (cur : List ℕ) (r : ℕ) → nameOf s e used cur ≡ refused r → ByToken r
   unfolding nameOf
   name-refuses cur r q = refuses-from 128 1 (draft [] [] 0 cur) r q

@@ -4,11 +4,11 @@ use mathlib.Core.Path.{_≡_, refl, sym, _∙_, subst}
 use mathlib.Core.Bool.{true}
 use mathlib.Core.List.{List}
 use native.Mathlib.Omega.{arith}
-use borrow.Author.Tests.{leb-true, eqb-true, eqb-false, le-leb, eq-eqb, ne-eqb}
+use borrow.Author.Tests.{leb-true, eqb-true, eqb-false, le-leb}
 use lib.Dec.{leb, eqb}
 use lib.ListN.{length}
 use Rattle.base.specs.Choice.{both}
-use Rattle.base.proofs.Choice.{both-true, both-of, pick-true, pick-false, pick-holds, by-test, never}
+use Rattle.base.proofs.Choice.{both-true, both-of, pick-holds, by-test, never}
 use Rattle.spans.specs.declared.Cursor.{Cursor}
 use Rattle.spans.specs.declared.NextByte.{NextByte}
 use Rattle.spans.specs.declared.NextByte.the-variants as byte
@@ -61,14 +61,14 @@ rule-dup : (n d : ℕ) → Rule2 n dupNumber d → Back n d
 rule-dup n d (dup-back x b) = b
 
 pub rule-diff : (n d : ℕ) → Rule2 n diffNumber d → diffFits d n ≡ true
-rule-diff n d (diff-none z) = pick-true _ _ (eq-eqb n 0 z)
-rule-diff n d (diff-back x b) = pick-false _ _ (ne-eqb n 0 (λ z. omega (arith, b .0, b .1))) ∙ of-back n d b
+rule-diff n d diff-none = le-leb 0 n (omega arith)
+rule-diff n d (diff-back x b) = le-leb d n (b .1)
 
 pub diff-rule : (n d : ℕ) → diffFits d n ≡ true → Rule2 n diffNumber d
 diff-rule n d e =
-    by-test (eqb n 0)
-    (λ z. subst (Rule2 n diffNumber) (sym (eqb-true d 0 (sym (pick-true (eqb d 0) (both (leb 1 d) (leb d n)) z) ∙ e))) (diff-none (eqb-true n 0 z)))
-    (λ z. diff-back d (back-of n d (sym (pick-false (eqb d 0) (both (leb 1 d) (leb d n)) z) ∙ e)))
+    by-test (eqb d 0)
+    (λ z. subst (Rule2 n diffNumber) (sym (eqb-true d 0 z)) diff-none)
+    (λ z. let w = eqb-false d 0 z in diff-back d (omega arith, leb-true d n e))
 
 module _ (s : Source) (n : ℕ) where
   dup-case : (c : Cursor) → byteIn s 0 typeStream ≡ byte.Value dupNumber c → (f : NextFour) → fourIn s 0 dupStream ≡ f → HeadCase s n (dupHead n f)
@@ -115,7 +115,7 @@ module _ (s : Source) (m : Kept) (r : Ready s m) (more : m .state .names ≡ m .
 
   rule-case : (d : ℕ) → Heads s diffNumber diffStream d → Rule2 (m .state .names) diffNumber d → ReadCase s m (headedOf s m (head.Diff (record { 0 = d })))
   unfolding headedOf atName entryBack
-  rule-case d h (diff-none z) = pick-holds (ReadCase s m) (eqb 0 0) _ _ (λ e. walk-case 0 _ (on-none h z)) (λ e. absurd (eqb-false 0 0 e refl))
+  rule-case d h diff-none = pick-holds (ReadCase s m) (eqb 0 0) _ _ (λ e. walk-case 0 _ (on-none h)) (λ e. absurd (eqb-false 0 0 e refl))
   rule-case d h (diff-back x b) =
       pick-holds (ReadCase s m) (eqb d 0) _ _ (λ e. absurd (let z : d ≡ 0 = eqb-true d 0 e in omega arith))
       (λ e. pick-holds (ReadCase s m) (earlierFits m (m .state .names - d)) _ _

@@ -9,7 +9,7 @@ returns : tie.Need-returns
 returns c =
     let z : tie.Start = search in
     let a = z .args in
-    leans-none (a .state) (now (a .entries)) (now (a .rows)) (a .distance .0) (c .if1 .taken)
+    leans-none (a .state) (now (a .entries)) (now (a .rows)) (a .distance .0) (omega (arith, c .if1 .taken))
 
 sub-back : tie.Need-sub-back
 sub-back c = search needs

@@ -7,10 +7,19 @@ use crate::directory::{MOST_BYTES, MOST_ROWS};
 /// So many tokens of one name keep a row; END follows at the last position.
 pub const MOST_TOKENS: usize = MOST_ROWS as usize;
 
-/// A block and the names it must give.
+/// A block, and the names and distances it must give.
 pub struct Planned {
     pub names: Vec<Vec<u8>>,
+    pub distances: Vec<u32>,
     pub block: Packed,
+}
+
+/// The names thought up so far, and their streams.
+pub struct Plan {
+    names: Vec<Name>,
+    distances: Vec<u32>,
+    longest: usize,
+    script: Script,
 }
 
 /// What a token stands for; printed here by the formatter, not by the reader's rules.
@@ -25,7 +34,7 @@ enum Thought {
 /// How a token is put into the stream.
 #[derive(Clone, Copy)]
 enum Way {
-    Fresh,
+    Plain,
     Delta(u8),
     Match,
 }
@@ -49,48 +58,87 @@ impl Thought {
     }
 }
 
-/// A block of so many names at most.
+/// A block of so many names at most; in half of the blocks later names may start afresh.
 pub fn planned(random: &mut Random, most: usize) -> Planned {
-    let count = random.between(1, most);
-    let longest = random.pick(&[1, 3, 8, 8, 20, MOST_TOKENS]);
-    let duplicates = random.pick(&[0, 15, 15, 70]);
-    let mut names: Vec<Name> = Vec::new();
-    let mut script = Script::new();
-    for number in 0..count {
-        let back = distance(random, number);
-        let earlier = (number > 0).then(|| &names[number - back]);
-        let name = match earlier {
-            Some(earlier) if random.percent(duplicates) => {
-                script = script.dup(back as u32);
-                earlier.clone()
-            }
-            _ => {
-                let name = think(random, earlier, longest);
-                script = encode(script.diff(back as u32), &name);
-                name
-            }
+    let fresh = random.pick(&[0, 0, 10, 40]);
+    Plan::new(random, most, fresh).laid_out(random)
+}
+
+impl Plan {
+    /// So many percent of the later names start afresh.
+    pub fn new(random: &mut Random, most: usize, fresh: usize) -> Plan {
+        let count = random.between(1, most);
+        let mut plan = Plan {
+            names: Vec::new(),
+            distances: Vec::new(),
+            longest: random.pick(&[1, 3, 8, 8, 20, MOST_TOKENS]),
+            script: Script::new(),
         };
-        names.push(name);
+        let duplicates = random.pick(&[0, 15, 15, 70]);
+        for number in 0..count {
+            let back = distance(random, number, fresh);
+            let is_dup = back > 0 && random.percent(duplicates);
+            plan.add(random, back, is_dup);
+        }
+        plan
     }
-    Planned {
-        names: names.into_iter().map(|name| name.text).collect(),
-        block: laid_out(random, &script),
+
+    /// The next name, so far back from its earlier name.
+    fn add(&mut self, random: &mut Random, back: usize, is_dup: bool) {
+        let earlier = (back > 0).then(|| &self.names[self.names.len() - back]);
+        let name = match earlier {
+            Some(earlier) if is_dup => earlier.clone(),
+            _ => think(random, earlier, self.longest),
+        };
+        self.put(|script| {
+            if is_dup {
+                script.dup(back as u32)
+            } else {
+                encode(script.diff(back as u32), &name)
+            }
+        });
+        self.distances.push(back as u32);
+        self.names.push(name);
+    }
+
+    /// A fresh start thought up as if it could lean on the name before; if it does, it is to be refused.
+    pub fn lean_afresh(&mut self, random: &mut Random) {
+        let name = think(random, self.names.last(), self.longest);
+        self.put(|script| encode(script.diff(0), &name));
+    }
+
+    /// Anything behind the names so far.
+    pub fn put(&mut self, more: impl FnOnce(Script) -> Script) {
+        self.script = more(std::mem::take(&mut self.script));
+    }
+
+    /// How many names there are.
+    pub fn count(&self) -> u32 {
+        self.names.len() as u32
+    }
+
+    pub fn laid_out(self, random: &mut Random) -> Planned {
+        let block = if random.percent(50) {
+            self.script.packed()
+        } else {
+            self.script.scattered(random)
+        };
+        Planned {
+            names: self.names.into_iter().map(|name| name.text).collect(),
+            distances: self.distances,
+            block,
+        }
     }
 }
 
-fn laid_out(random: &mut Random, script: &Script) -> Packed {
-    if random.percent(50) {
-        script.packed()
-    } else {
-        script.scattered(random)
+/// 0 for name 0 and for so many percent of the others, which start afresh.
+fn distance(random: &mut Random, number: usize, fresh: usize) -> usize {
+    if number == 0 || random.percent(fresh) {
+        return 0;
     }
-}
-
-fn distance(random: &mut Random, number: usize) -> usize {
-    match (number, random.below(3)) {
-        (0, _) => 0,
-        (_, 0) => 1,
-        (_, 1) => number,
+    match random.below(3) {
+        0 => 1,
+        1 => number,
         _ => random.between(1, number),
     }
 }
@@ -119,7 +167,7 @@ fn think(random: &mut Random, earlier: Option<&Name>, longest: usize) -> Name {
     if text.is_empty() {
         let byte = random.allowed();
         tokens.pop();
-        tokens.push((Way::Fresh, Thought::Byte(byte)));
+        tokens.push((Way::Plain, Thought::Byte(byte)));
         text.push(byte);
     }
     Name { text, tokens }
@@ -135,7 +183,7 @@ fn token(random: &mut Random, row: Option<&Thought>, left: usize) -> (Way, Thoug
             return (Way::Delta(delta), sum);
         }
     }
-    (Way::Fresh, fresh(random, left))
+    (Way::Plain, plain(random, left))
 }
 
 /// The row with the delta added, where the rules allow one.
@@ -151,7 +199,7 @@ fn stepped(row: &Thought, delta: u8) -> Option<Thought> {
     }
 }
 
-fn fresh(random: &mut Random, left: usize) -> Thought {
+fn plain(random: &mut Random, left: usize) -> Thought {
     match random.below(4) {
         2 | 3 if left <= 2 => Thought::Wide(random.below(10) as u32, left.max(1) as u8),
         0 => Thought::Text(text(random, left)),
@@ -190,10 +238,10 @@ fn encode(script: Script, name: &Name) -> Script {
         (Way::Match, _) => script.matched(),
         (Way::Delta(delta), Thought::Wide(..)) => script.ddelta0(*delta),
         (Way::Delta(delta), _) => script.ddelta(*delta),
-        (Way::Fresh, Thought::Text(text)) => script.string(text),
-        (Way::Fresh, Thought::Byte(byte)) => script.char(*byte),
-        (Way::Fresh, Thought::Number(number)) => script.digits(*number),
-        (Way::Fresh, Thought::Wide(number, width)) => script.digits0(*number, *width),
+        (Way::Plain, Thought::Text(text)) => script.string(text),
+        (Way::Plain, Thought::Byte(byte)) => script.char(*byte),
+        (Way::Plain, Thought::Number(number)) => script.digits(*number),
+        (Way::Plain, Thought::Wide(number, width)) => script.digits0(*number, *width),
     };
     name.tokens.iter().fold(script, put).end()
 }

@@ -22,9 +22,8 @@ const BYTES: [u8; 17] = [
 type Table = fn(&mut Memory) -> &mut Lent<u32>;
 
 pub fn cases() -> impl Iterator<Item = Case> {
-    let small = (0..).map(|seed| planned(&mut Random::new(seed), 3));
-    let small = small.filter(|planned| planned.block.bytes.len() < 80 && planned.names.len() > 1);
-    small.take(6).flat_map(|planned| {
+    let blocks = small(false).take(6).chain(small(true).take(3));
+    blocks.flat_map(|planned| {
         let edges = [
             lengths(&planned),
             spans(&planned),
@@ -33,6 +32,15 @@ pub fn cases() -> impl Iterator<Item = Case> {
             writes(&planned),
         ];
         edges.into_iter().flatten()
+    })
+}
+
+/// Small blocks of two names or three, with a fresh start among the later ones or without.
+fn small(fresh: bool) -> impl Iterator<Item = Planned> {
+    let all = (0..).map(|seed| planned(&mut Random::new(seed), 3));
+    all.filter(move |planned| {
+        let later = &planned.distances[1..];
+        planned.block.bytes.len() < 80 && !later.is_empty() && later.contains(&0) == fresh
     })
 }
 

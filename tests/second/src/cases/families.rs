@@ -3,7 +3,7 @@
 use super::blocks::{planned, Planned};
 use super::random::Random;
 use super::wild::wild;
-use super::{damage, forged, names};
+use super::{damage, forged, fresh, names};
 use crate::calls::Second;
 use crate::compare::Case;
 use crate::memory::{Call, Memory, Room};
@@ -163,15 +163,20 @@ pub fn wild_streams(random: &mut Random) -> Case {
     Case { memory, calls }
 }
 
-/// Tables, state and cursors changed after some honest reads.
-pub fn hostile(random: &mut Random) -> Case {
-    let planned = planned(random, 6);
-    let mut memory = memory_for(random, &planned);
+/// The block opened, and none, some or all of its names read.
+fn read_in_part(random: &mut Random, memory: &mut Memory, planned: &Planned) {
     let count = planned.block.count;
     memory.run(&Second, &Call::Open { count });
     for _ in 0..random.below(planned.names.len() + 1) {
         memory.run(&Second, &Call::Read);
     }
+}
+
+/// Tables, state and cursors changed after some honest reads.
+pub fn hostile(random: &mut Random) -> Case {
+    let planned = planned(random, 6);
+    let mut memory = memory_for(random, &planned);
+    read_in_part(random, &mut memory, &planned);
     damage::kept(random, &mut memory);
     let mut calls = vec![Call::Read];
     calls.extend(claims(random, &planned.names, 3));
@@ -184,6 +189,26 @@ pub fn forged_tables(random: &mut Random) -> Case {
     let memory = forged::forged(random);
     let claim = a_claim(random, &[b"name".to_vec(), b"other".to_vec()]);
     let calls = vec![Call::Read, claim, Call::Read, Call::Read];
+    Case { memory, calls }
+}
+
+/// A block with fresh starts read as a whole, damaged or not; or name by name, after some honest
+/// reads and with what they kept changed or not.
+pub fn fresh_starts(random: &mut Random) -> Case {
+    let planned = fresh::block(random, 6);
+    let mut memory = memory_for(random, &planned);
+    let count = planned.block.count;
+    let mut calls = vec![Call::ReadBlock { count }, Call::Read];
+    match random.below(5) {
+        0 => {}
+        1 => damage::block(random, &mut memory),
+        _ => {
+            read_in_part(random, &mut memory, &planned);
+            fresh::harm(random, &mut memory);
+            calls = (0..count).map(|_| Call::Read).collect();
+        }
+    }
+    calls.extend(claims(random, &planned.names, 3));
     Case { memory, calls }
 }
 

@@ -84,7 +84,8 @@ fn name_table(random: &mut Random, kept: usize, used: usize, rows: usize) -> Vec
     (0..kept).flat_map(entry).collect()
 }
 
-/// Two names that match and step, by the kinds of the rows at the front of the table.
+/// Two names that match and step, by the kinds of the rows at the front of the table; now and
+/// then one starts afresh.
 fn leaning(random: &mut Random, kept: usize, rows: &[u32]) -> Script {
     let mut script = Script::new();
     for more in 0..2 {
@@ -93,7 +94,7 @@ fn leaning(random: &mut Random, kept: usize, rows: &[u32]) -> Script {
             script = script.dup(distance);
             continue;
         }
-        script = script.diff(distance);
+        script = script.diff(if random.percent(10) { 0 } else { distance });
         let most = random.pick(&[1, 2, 4, 125]);
         let tokens = random.between(0, most.min(rows.len() / FIVE));
         for place in 0..tokens {

@@ -5,6 +5,7 @@ pub mod damage;
 pub mod edges;
 mod families;
 pub mod forged;
+pub mod fresh;
 pub mod large;
 pub mod names;
 pub mod random;
@@ -29,7 +30,7 @@ const fn family(word: &'static str, cases: u64, make: fn(&mut Random) -> Case) -
     Family { word, cases, make }
 }
 
-pub const FAMILIES: [Family; 11] = [
+pub const FAMILIES: [Family; 12] = [
     family("whole", 3_000, families::whole),
     family("steps", 3_000, families::steps),
     family("any", 3_000, families::any_calls),
@@ -39,6 +40,7 @@ pub const FAMILIES: [Family; 11] = [
     family("wild", 8_000, families::wild_streams),
     family("hostile", 12_000, families::hostile),
     family("forged", 10_000, families::forged_tables),
+    family("fresh", 8_000, families::fresh_starts),
     family("written", 4_000, families::written),
     family("spoilt", 3_000, families::spoilt),
 ];

@@ -5,23 +5,35 @@ use super::random::Random;
 use super::script::{Packed, Script};
 use crate::directory::Stream;
 
+/// How many kinds of wild token there are, and how many of them, the first ones, aren't made to lean.
+const KINDS: usize = 60;
+const PLAIN_KINDS: usize = 41;
+
 /// Types and values taken at random, right often enough to get somewhere.
 pub fn wild(random: &mut Random) -> Packed {
     let mut script = Script::new();
     for number in 0..random.between(1, 8) {
-        script = wild_lead(random, script, number);
+        let afresh = number == 0 || random.percent(20);
+        script = wild_lead(random, script, number, afresh);
         script = if random.percent(5) {
             wild_to_the_last(random, script)
         } else {
-            wild_tokens(random, script)
+            wild_tokens(random, script, afresh)
         };
     }
     script.packed()
 }
 
-fn wild_tokens(random: &mut Random, script: Script) -> Script {
+/// A name that starts afresh gets nowhere with tokens that lean, so it mostly has none.
+fn wild_tokens(random: &mut Random, script: Script, afresh: bool) -> Script {
     let tokens = random.below(7);
-    let script = (0..tokens).fold(script, |script, _| wild_token(random, script));
+    let kinds = if afresh && random.percent(75) {
+        PLAIN_KINDS
+    } else {
+        KINDS
+    };
+    let token = |script, _| wild_token(random, script, kinds);
+    let script = (0..tokens).fold(script, token);
     if random.percent(95) {
         script.end()
     } else {
@@ -43,7 +55,7 @@ fn wild_to_the_last(random: &mut Random, script: Script) -> Script {
     }
 }
 
-fn wild_lead(random: &mut Random, script: Script, number: usize) -> Script {
+fn wild_lead(random: &mut Random, script: Script, number: usize, afresh: bool) -> Script {
     let distance = random.below(number + 2) as u32;
     match random.below(40) {
         0 => script.lead(random.byte()),
@@ -51,14 +63,14 @@ fn wild_lead(random: &mut Random, script: Script, number: usize) -> Script {
         2 => script.dup(random.number()),
         3 => script.diff(distance << 24),
         4..=9 => script.dup(distance),
-        _ if number == 0 => script.diff(0),
+        _ if afresh => script.diff(0),
         _ => script.diff(distance),
     }
 }
 
-fn wild_token(random: &mut Random, script: Script) -> Script {
+fn wild_token(random: &mut Random, script: Script, kinds: usize) -> Script {
     let number = random.printed_number();
-    match random.below(60) {
+    match random.below(kinds) {
         0 => script.kind(random.byte()),
         1 => script.char(random.byte()),
         2 => script.string(&[random.byte()]),
