@@ -14,6 +14,7 @@ mod pair;
 mod targets;
 
 use input::Input;
+use second::compare::Tally;
 
 /// libFuzzer's entry. A difference panics, which ends the process and keeps the input.
 ///
@@ -30,11 +31,36 @@ pub unsafe extern "C" fn LLVMFuzzerTestOneInput(data: *const u8, length: usize) 
     0
 }
 
-fn run(input: &mut Input<'_>) {
+/// Runs an input: how often it made each round trip.
+fn run(input: &mut Input<'_>) -> Tally {
     match input.below(4) {
         0 => targets::whole_block(input),
-        1 => targets::call_sequence(input),
-        2 => targets::writing(input),
+        1 => return targets::call_sequence(input),
+        2 => return targets::writing(input),
         _ => targets::listing(input),
+    }
+    Tally::new()
+}
+
+#[cfg(test)]
+mod tests {
+    use super::*;
+    use second::refusal::DONE;
+    use second::round::WAYS;
+    use std::fs;
+
+    /// Fuzzing starts from the corpus, so that it makes every round trip that the corpus makes.
+    #[test]
+    fn the_corpus_makes_round_trips() {
+        let corpus = fs::read_dir(concat!(env!("CARGO_MANIFEST_DIR"), "/corpus")).unwrap();
+        let mut made = [0; 2];
+        for file in corpus {
+            let bytes = fs::read(file.unwrap().path()).unwrap();
+            let trips = run(&mut Input::new(&bytes));
+            for (made, way) in made.iter_mut().zip(&WAYS) {
+                *made += trips.get(&(way.word, DONE)).copied().unwrap_or(0);
+            }
+        }
+        assert!(made.iter().all(|times| *times > 0), "{made:?}");
     }
 }

@@ -2,14 +2,18 @@
 
 use second::boundary::Linked;
 use second::calls::Second;
+use second::compare::Tally;
 use second::kept::FIVE;
 use second::lent::Lent;
 use second::memory::{Call, Memory};
 use second::refusal::unpack;
+use second::round;
 
 pub struct Pair {
     second: Memory,
     library: Memory,
+    /// The round trips that were made.
+    trips: Tally,
 }
 
 impl Pair {
@@ -17,10 +21,12 @@ impl Pair {
         Pair {
             library: memory.clone(),
             second: memory,
+            trips: Tally::new(),
         }
     }
 
-    /// Code and value of the call; a difference ends the process.
+    /// Code and value of the call; a difference ends the process. What is written is also handed on
+    /// and read as users do.
     pub fn call(&mut self, call: &Call) -> (u32, u32) {
         let expected = unpack(self.second.run(&Second, call));
         let answered = unpack(self.library.run(&Linked, call));
@@ -34,7 +40,16 @@ impl Pair {
                 self.second
             );
         }
+        if let (Call::Write { input }, 0) = (call, expected.0) {
+            let trips = &mut self.trips;
+            let made = round::trips(input, &self.second, [&Second, &Linked], trips);
+            made.unwrap_or_else(|found| panic!("{found}"));
+        }
         expected
+    }
+
+    pub fn trips(self) -> Tally {
+        self.trips
     }
 
     pub fn change(&mut self, change: impl Fn(&mut Memory)) {

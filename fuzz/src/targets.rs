@@ -1,4 +1,5 @@
 //! What an input can be: a block to read as a whole, a sequence of calls, names to write, or names to list.
+//! The two that can write say how often they made each round trip.
 
 use crate::block::{block, MOST_NAMES};
 use crate::harm::harm;
@@ -6,6 +7,7 @@ use crate::input::Input;
 use crate::pair::Pair;
 use second::boundary;
 use second::cases::script::Packed;
+use second::compare::Tally;
 use second::kept::FIVE;
 use second::leaf::{self, LISTING_ROOM};
 use second::memory::{Call, Memory, Room};
@@ -32,7 +34,7 @@ pub fn whole_block(input: &mut Input<'_>) {
 }
 
 /// Any calls in any order, with the memory changed between them.
-pub fn call_sequence(input: &mut Input<'_>) {
+pub fn call_sequence(input: &mut Input<'_>) -> Tally {
     let (block, mut pair) = memory(input);
     let count = block.count;
     pair.call(&Call::Open { count });
@@ -43,6 +45,7 @@ pub fn call_sequence(input: &mut Input<'_>) {
         step(input, &block, &mut pair);
     }
     pair.call(&Call::Read);
+    pair.trips()
 }
 
 fn step(input: &mut Input<'_>, block: &Packed, pair: &mut Pair) {
@@ -67,7 +70,7 @@ fn step(input: &mut Input<'_>, block: &Packed, pair: &mut Pair) {
 }
 
 /// Names written; what was written is read back and must be the names.
-pub fn writing(input: &mut Input<'_>) {
+pub fn writing(input: &mut Input<'_>) -> Tally {
     let short = input.byte();
     let names = input.rest();
     let count = names.iter().filter(|byte| **byte == b'\n').count();
@@ -78,7 +81,7 @@ pub fn writing(input: &mut Input<'_>) {
         input: names.to_vec(),
     });
     if code != 0 {
-        return;
+        return pair.trips();
     }
     let [count, total] = pair.both().total_numbers();
     assert_eq!(total, bytes, "the answer's bytes and the totals'");
@@ -87,6 +90,7 @@ pub fn writing(input: &mut Input<'_>) {
         assert_eq!(read, (DONE, count), "what was written can be read");
         assert_eq!(kept_text(&pair), names, "what was read is what was written");
     }
+    pair.trips()
 }
 
 /// Names listed, repeated so that an input reaches the most bytes that a listing takes.

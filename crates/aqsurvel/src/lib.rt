@@ -1,39 +1,49 @@
 // The C boundary: each call of the library behind a C function that hands on what it is lent.
 ghost use mathlib.Core.Path.{_≡_};
+ghost use Rattle.tokens.specs.Types.{rulesOf, draftPlain};
 ghost use Rattle.calls.specs.Calls.{opensLeft, openCallLent, readsLeft, readCallLent, blockCallLent, claimCallLent, writesLeft, writeCallLent};
+use block::Kind;
+use block::Mode;
+use block::Setting;
+
+// The draft's plain setting, the only one there is for now.
+const DRAFT: Setting = Setting {
+    kind: Kind::Draft,
+    mode: Mode::Plain,
+};
 
 #[no_mangle]
 pub extern "C" fn aq_open(
     bytes: &[u8],
-    directory: &[u32],
+    dir: &[u32],
     count: u32,
     cursors: &mut [u32],
     state: &mut [u32; 4],
 ) -> u64
-    ensures { λ r. ⌜ opensLeft r cursors state ≡ openCallLent bytes directory count cursors state ⌝ }
+    ensures { λ r. ⌜ opensLeft r cursors state ≡ openCallLent bytes dir count cursors state ⌝ }
 {
-    calls::open(bytes, directory, count, cursors, state)
+    calls::open(bytes, dir, count, cursors, state)
 }
 
 #[no_mangle]
 pub extern "C" fn aq_read(
     bytes: &[u8],
-    directory: &[u32],
+    dir: &[u32],
     cursors: &mut [u32],
     text: &mut [u8],
     names: &mut [u32],
     rows: &mut [u32],
     state: &mut [u32; 4],
 ) -> u64
-    ensures { λ r. ⌜ readsLeft r cursors text names rows state ≡ readCallLent bytes directory cursors text names rows state ⌝ }
+    ensures { λ r. ⌜ readsLeft r cursors text names rows state ≡ readCallLent (rulesOf draftPlain) bytes dir cursors text names rows state ⌝ }
 {
-    readcalls::read(bytes, directory, cursors, text, names, rows, state)
+    readcalls::read(DRAFT, bytes, dir, cursors, text, names, rows, state)
 }
 
 #[no_mangle]
 pub extern "C" fn aq_read_block(
     bytes: &[u8],
-    directory: &[u32],
+    dir: &[u32],
     count: u32,
     cursors: &mut [u32],
     text: &mut [u8],
@@ -41,9 +51,9 @@ pub extern "C" fn aq_read_block(
     rows: &mut [u32],
     state: &mut [u32; 4],
 ) -> u64
-    ensures { λ r. ⌜ readsLeft r cursors text names rows state ≡ blockCallLent bytes directory count cursors text names rows state ⌝ }
+    ensures { λ r. ⌜ readsLeft r cursors text names rows state ≡ blockCallLent (rulesOf draftPlain) bytes dir count cursors text names rows state ⌝ }
 {
-    readcalls::read_block(bytes, directory, count, cursors, text, names, rows, state)
+    readcalls::read_block(DRAFT, bytes, dir, count, cursors, text, names, rows, state)
 }
 
 #[no_mangle]
@@ -62,11 +72,11 @@ pub extern "C" fn aq_claim(
 #[no_mangle]
 pub extern "C" fn aq_write(
     input: &[u8],
-    directory: &mut [u32],
+    dir: &mut [u32],
     bytes: &mut [u8],
     totals: &mut [u32; 2],
 ) -> u64
-    ensures { λ r. ⌜ writesLeft r directory bytes totals ≡ writeCallLent input directory bytes totals ⌝ }
+    ensures { λ r. ⌜ writesLeft r dir bytes totals ≡ writeCallLent (rulesOf draftPlain) input dir bytes totals ⌝ }
 {
-    calls::write(input, directory, bytes, totals)
+    calls::write(DRAFT, input, dir, bytes, totals)
 }

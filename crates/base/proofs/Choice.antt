@@ -35,6 +35,12 @@ unfolding pick
 pick-same true x y z w f g = f refl
 pick-same false x y z w f g = g refl
 
+-- two choices by one test
+pub pick-two : {A B : Type 0} (P : A → B → Type 0) (b : Bool) (x y : A) (z w : B) → (b ≡ true → P x z) → (b ≡ false → P y w) → P (pick b x y) (pick b z w)
+unfolding pick
+pick-two P true x y z w f g = f refl
+pick-two P false x y z w f g = g refl
+
 pub never : false ≡ true → ⊥
 never e = let z : _≡_ {A = ℕ} 0 1 = cc in omega arith
 

@@ -15,6 +15,22 @@ pub struct Block {
     pub count: u32,
 }
 
+// What kind of block it is: it decides the numbers of the types.
+pub enum Kind {
+    Draft,
+}
+
+// How its tokens are read.
+pub enum Mode {
+    Plain,
+}
+
+// Which block is read or written; calls hand it on, and only what differs by kind or mode takes it apart.
+pub struct Setting {
+    pub kind: Kind,
+    pub mode: Mode,
+}
+
 // The count of the block, k names kept, text bytes used and rows used.
 pub struct State {
     pub count: u32,

@@ -6,6 +6,7 @@ use lib.ListN.{length}
 use Rattle.block.specs.declared.State.{State}
 use Rattle.block.specs.declared.Opened.{Opened}
 use Rattle.block.specs.Block.{opening, openOf}
+use Rattle.tokens.specs.Types.{Rules}
 use Rattle.kept.specs.Tables.{keeping}
 use Rattle.entries.specs.declared.Answer.{Answer}
 use Rattle.entries.specs.Outcomes.{Outcome, outcome}
@@ -36,15 +37,15 @@ unfolding readsOf
 read-call a c t e r k o f p q = same-reads c t e r p q ∙ ap readsOf f
 
 -- the state that is handed in as four numbers
-pub read-state : (bytes dir cur text names rows state : List ℕ) {k : State} → k ≡ stateIn state
-    → readsOf (readOf (source bytes dir cur) (keeping k text names rows)) ≡ readCall bytes dir cur text names rows state
+pub read-state : (rules : Rules) (bytes dir cur text names rows state : List ℕ) {k : State} → k ≡ stateIn state
+    → readsOf (readOf (source rules bytes dir cur) (keeping k text names rows)) ≡ readCall rules bytes dir cur text names rows state
 unfolding readCall
-read-state bytes dir cur text names rows state e = ap (λ (k : State). readsOf (readOf (source bytes dir cur) (keeping k text names rows))) e
+read-state rules bytes dir cur text names rows state e = ap (λ (k : State). readsOf (readOf (source rules bytes dir cur) (keeping k text names rows))) e
 
-pub block-state : (bytes dir : List ℕ) (count : ℕ) (cur text names rows state : List ℕ) {k : State} → k ≡ stateIn state
-    → readsOf (blockOf (source bytes dir cur) (keeping k text names rows) count) ≡ blockCall bytes dir count cur text names rows state
+pub block-state : (rules : Rules) (bytes dir : List ℕ) (count : ℕ) (cur text names rows state : List ℕ) {k : State} → k ≡ stateIn state
+    → readsOf (blockOf (source rules bytes dir cur) (keeping k text names rows) count) ≡ blockCall rules bytes dir count cur text names rows state
 unfolding blockCall
-block-state bytes dir count cur text names rows state e = ap (λ (k : State). readsOf (blockOf (source bytes dir cur) (keeping k text names rows) count)) e
+block-state rules bytes dir count cur text names rows state e = ap (λ (k : State). readsOf (blockOf (source rules bytes dir cur) (keeping k text names rows) count)) e
 
 pub claim-call : (number : ℕ) (claim text names state : List ℕ) (k : State) {v : Verdict} {n : ℕ} → k ≡ stateIn state → v ≡ claimOf number claim k text names
     → n ≡ verdictNumber v → n ≡ claimCall number claim text names state
@@ -54,7 +55,7 @@ claim-call number claim text names state k e f g = g ∙ ap verdictNumber (f ∙
 same-writes : {n n' : ℕ} (d b : List ℕ) {t t' : List ℕ} → n ≡ n' → t ≡ t' → writes n d b t ≡ writes n' d b t'
 same-writes d b p q = cc
 
-pub write-call : (input dir bytes totals : List ℕ) (a : WriteAnswer) (d b : List ℕ) {n : ℕ} {t : List ℕ}
-    → writing a d b ≡ writeOf input dir bytes → n ≡ writtenNumber a → t ≡ writtenTotals totals a → writes n d b t ≡ writeCall input dir bytes totals
+pub write-call : (rules : Rules) (input dir bytes totals : List ℕ) (a : WriteAnswer) (d b : List ℕ) {n : ℕ} {t : List ℕ}
+    → writing a d b ≡ writeOf rules input dir bytes → n ≡ writtenNumber a → t ≡ writtenTotals totals a → writes n d b t ≡ writeCall rules input dir bytes totals
 unfolding writeCall writesOf
-write-call input dir bytes totals a d b e p q = same-writes d b p q ∙ ap (writesOf totals) e
+write-call rules input dir bytes totals a d b e p q = same-writes d b p q ∙ ap (writesOf totals) e

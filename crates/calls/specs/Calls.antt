@@ -7,6 +7,7 @@ use Rattle.base.specs.Lent.{Buffer, lent, left}
 use Rattle.block.specs.declared.Opened.{Opened}
 use Rattle.block.specs.declared.Opened.the-variants as opened
 use Rattle.block.specs.Block.{Opening, openOf}
+use Rattle.tokens.specs.Types.{Rules}
 use Rattle.kept.specs.Tables.{keeping}
 use Rattle.sources.specs.Source.{source}
 use Rattle.entries.specs.Outcomes.{Outcome}
@@ -66,19 +67,19 @@ readsOf o = reads
     (o .kept .rows)
     (stateOut (o .kept .state))
 
-unfoldable pub readCall : List ℕ → List ℕ → List ℕ → List ℕ → List ℕ → List ℕ → List ℕ → Reads
-readCall bytes dir cursors text names rows state = readsOf (readOf (source bytes dir cursors) (keeping (stateIn state) text names rows))
+unfoldable pub readCall : Rules → List ℕ → List ℕ → List ℕ → List ℕ → List ℕ → List ℕ → List ℕ → Reads
+readCall rules bytes dir cursors text names rows state = readsOf (readOf (source rules bytes dir cursors) (keeping (stateIn state) text names rows))
 
-abbrev pub readCallLent : Buffer → Buffer → Buffer → Buffer → Buffer → Buffer → Buffer → Reads
-readCallLent bytes dir cursors text names rows state =
-    readCall (lent bytes) (lent dir) (lent cursors) (lent text) (lent names) (lent rows) (lent state)
+abbrev pub readCallLent : Rules → Buffer → Buffer → Buffer → Buffer → Buffer → Buffer → Buffer → Reads
+readCallLent rules bytes dir cursors text names rows state =
+    readCall rules (lent bytes) (lent dir) (lent cursors) (lent text) (lent names) (lent rows) (lent state)
 
-unfoldable pub blockCall : List ℕ → List ℕ → ℕ → List ℕ → List ℕ → List ℕ → List ℕ → List ℕ → Reads
-blockCall bytes dir count cursors text names rows state = readsOf (blockOf (source bytes dir cursors) (keeping (stateIn state) text names rows) count)
+unfoldable pub blockCall : Rules → List ℕ → List ℕ → ℕ → List ℕ → List ℕ → List ℕ → List ℕ → List ℕ → Reads
+blockCall rules bytes dir count cursors text names rows state = readsOf (blockOf (source rules bytes dir cursors) (keeping (stateIn state) text names rows) count)
 
-abbrev pub blockCallLent : Buffer → Buffer → ℕ → Buffer → Buffer → Buffer → Buffer → Buffer → Reads
-blockCallLent bytes dir count cursors text names rows state =
-    blockCall (lent bytes) (lent dir) count (lent cursors) (lent text) (lent names) (lent rows) (lent state)
+abbrev pub blockCallLent : Rules → Buffer → Buffer → ℕ → Buffer → Buffer → Buffer → Buffer → Buffer → Reads
+blockCallLent rules bytes dir count cursors text names rows state =
+    blockCall rules (lent bytes) (lent dir) count (lent cursors) (lent text) (lent names) (lent rows) (lent state)
 
 -- a claim leaves all as it was: nothing is lent to it to be written
 unfoldable pub claimCall : ℕ → List ℕ → List ℕ → List ℕ → List ℕ → ℕ
@@ -107,8 +108,8 @@ writtenTotals totals (written.Refused r) = totals
 unfoldable pub writesOf : List ℕ → Writing → Writes
 writesOf totals w = writes (writtenNumber (w .answer)) (w .directory) (w .bytes) (writtenTotals totals (w .answer))
 
-unfoldable pub writeCall : List ℕ → List ℕ → List ℕ → List ℕ → Writes
-writeCall input dir bytes totals = writesOf totals (writeOf input dir bytes)
+unfoldable pub writeCall : Rules → List ℕ → List ℕ → List ℕ → List ℕ → Writes
+writeCall rules input dir bytes totals = writesOf totals (writeOf rules input dir bytes)
 
-abbrev pub writeCallLent : Buffer → Buffer → Buffer → Buffer → Writes
-writeCallLent input dir bytes totals = writeCall (lent input) (lent dir) (lent bytes) (lent totals)
+abbrev pub writeCallLent : Rules → Buffer → Buffer → Buffer → Buffer → Writes
+writeCallLent rules input dir bytes totals = writeCall rules (lent input) (lent dir) (lent bytes) (lent totals)

@@ -5,6 +5,7 @@ ghost use Prim.Native.Nat.{ℕ};
 ghost use lib.ListN.{length};
 ghost use Rattle.kept.specs.Tables.{keeping, tablesLent};
 ghost use Rattle.kept.specs.Inside.{Counted, TextInside};
+ghost use Rattle.tokens.specs.Types.{Rules};
 ghost use Rattle.sources.specs.Source.{source};
 ghost use Rattle.heads.specs.Headed.{Passable};
 ghost use Rattle.copying.specs.Copies.{dupOf, leavesRows};
@@ -17,7 +18,7 @@ use heads::heading;
 use kept::Entry;
 use spans::Distance;
 
-// Rule 3, of an earlier name that was judged. Where the block's bytes and directory lie doesn't matter to it.
+// Rule 3, of an earlier name that was judged. What rules the block is read by and where its bytes and directory lie doesn't matter to it.
 pub fn copied(
     cursors: &mut [u32],
     text: &mut [u8],
@@ -30,7 +31,7 @@ pub fn copied(
     requires { ⌜ Counted (keeping state (now text) (now entries) (now rows)) ⌝ }
     requires { ⌜ TextInside state e ⌝ }
     requires { ⌜ (length (now cursors) ≡ 1290) × Passable (now cursors) dupStream ⌝ }
-    ensures { λ r. ⌜ ((bytes dir : List ℕ) → leavesRows r cursors text entries rows ≡ dupOf (source bytes dir (lent cursors)) (tablesLent state text entries rows) (distance .0) e) ⌝ }
+    ensures { λ r. ⌜ ((rules : Rules) (b d : List ℕ) → leavesRows r cursors text entries rows ≡ dupOf (source rules b d (lent cursors)) (tablesLent state text entries rows) (distance .0) e) ⌝ }
 {
     let bytes = e.length;
     if entries::has_room(state, text, entries, rows, bytes, 0) {

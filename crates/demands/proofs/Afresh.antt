@@ -12,14 +12,13 @@ use Rattle.base.specs.Choice.{pick, both}
 use Rattle.base.specs.Same.{same}
 use Rattle.base.proofs.Choice.{pick-true, pick-false, pick-holds, by-test, both-none, both-left}
 use Rattle.spans.specs.declared.Cursor.{Cursor}
-use Rattle.spans.specs.declared.NextByte.{NextByte}
 use Rattle.spans.specs.declared.NextByte.the-variants as byte
 use Rattle.block.specs.Streams.{typeStream, diffStream}
 use Rattle.kept.specs.Tables.{Kept, entryAt}
 use Rattle.tokens.specs.declared.Token.{Token}
 use Rattle.tokens.specs.declared.TokenType.{TokenType}
 use Rattle.tokens.specs.declared.TokenType.the-variants as type
-use Rattle.tokens.specs.Types.{dupNumber, diffNumber, typeOf}
+use Rattle.tokens.specs.Types.{typeOf}
 use Rattle.tokens.specs.Tokens.{bytesOf}
 use Rattle.sources.specs.Source.{Source, earlier, byteIn}
 use Rattle.values.specs.declared.Step.{Step}
@@ -29,7 +28,7 @@ use Rattle.repeats.proofs.Laws.{rows-none}
 use Rattle.bars.specs.Bars.{barred}
 use Rattle.steps.specs.Steps.{valueStep, typedStep, stepAt}
 use Rattle.steps.proofs.Frame.{step-earlier}
-use Rattle.names.specs.Names.{Draft, Named, named, typeIn, grown, ended, printable, onward, nameFrom, nameOf}
+use Rattle.names.specs.Names.{Draft, Named, named, grown, ended, printable, onward, nameFrom, nameOf}
 use Rattle.names.proofs.Growing.{never-named, grows, name-same}
 use Rattle.entries.specs.declared.Answer.the-variants as answer
 use Rattle.entries.specs.Outcomes.{Outcome}
@@ -37,13 +36,16 @@ use Rattle.entries.specs.Entries.{kept}
 use Rattle.earlier.specs.Back.{none}
 use Rattle.reads.specs.Reads.{readOf}
 use Rattle.references.specs.References.{anew, referenceOf}
-use Rattle.demands.specs.Refusals.{IsHead, is-dup, is-diff, Heads, Rule2, diff-none, HeadStop, no-type, no-head, no-distance, off-rule, on-none, on-earlier, Origin, copied, walked, Reason, by-head, by-memory, by-token, by-room, ReadCase, refuses, ends, keeps}
+use Rattle.demands.specs.Refusals.{IsHead, is-dup, is-diff, Heads, diff-none, HeadStop, no-type, no-head, no-distance, off-rule, on-none, on-earlier, Origin, copied, walked, Reason, by-head, by-memory, by-token, by-room, ReadCase, refuses, ends, keeps, dupIn, diffIn}
+use Rattle.demands.specs.Stops.{Typed}
 use Rattle.demands.specs.Afresh.{OnlyAfresh, NeverWritten, Leaning, match, delta, delta0, StartsAfresh}
 use Rattle.demands.proofs.Lemmas.Traces as traces
-use Rattle.demands.proofs.Lemmas.Traces.{Value, StepWay, halts, closes, gives, step-way, name-refuses}
+use Rattle.demands.proofs.Lemmas.Traces.{Value, StepWay, halts, closes, gives, step-way}
+use Rattle.demands.proofs.Lemmas.Stops.{stop-number}
 use Rattle.demands.proofs.Lemmas.Ways.{read-case}
 use Rattle.demands.proofs.Lemmas.Adding.{entry-kept}
 use Rattle.demands.proofs.Refusals.{leans-read, read-named}
+use Rattle.tokens.proofs.Laws.{dup-not-diff}
 
 -- rule 2
 pub only-afresh : OnlyAfresh
@@ -82,25 +84,22 @@ module _ (s : Source) (text rows : List ℕ) (p : ℕ) (low : 1 ≤ p) where
   value-five c y delta = pick-false _ _ (both-left _ no-row)
   value-five c y delta0 = pick-false _ _ (both-left _ no-row)
 
-  step-five : p < 128 → (b : ℕ) (c : Cursor) → byteIn s p typeStream ≡ byte.Value b c → Leaning (typeOf b) → stepAt s (earlier text rows 0 0) p ≡ step.Refused 5
+  step-five : p < 128 → (b : ℕ) (c : Cursor) → byteIn s p typeStream ≡ byte.Value b c → Leaning (typeOf (s .rules .numbers) b) → stepAt s (earlier text rows 0 0) p ≡ step.Refused 5
   unfolding stepAt typedStep barred
   step-five h b c e l =
       ap (typedStep s (earlier text rows 0 0) p) e
       ∙ pick-false _ _ (both-left _ (ne-eqb p 128 (λ z. omega arith)))
-      ∙ value-five c (typeOf b) l
+      ∙ value-five c (typeOf (s .rules .numbers) b) l
 
   -- so what a step gives has its bytes in the block
   module _ (other : List ℕ) (high : p ≤ 128) where
-    no-match : (v : NextByte) → byteIn s p typeStream ≡ v → typeIn v ≡ type.Match → (p ≡ 128 → ⊥) → (t : Token) (c : Cursor)
-        → stepAt s (earlier text rows 0 0) p ≡ step.Got t c → ⊥
-    unfolding typeIn
-    no-match (byte.Value b k) e y n t c q =
-        let f = step-five (omega (arith, n)) b k e (subst Leaning (sym y) match) in
+    no-match : Typed s p type.Match → p < 128 → (t : Token) (c : Cursor) → stepAt s (earlier text rows 0 0) p ≡ step.Got t c → ⊥
+    no-match y l t c q =
+        let f = step-five l (y .number) (y .past) (y .there) (subst Leaning (sym (y .is)) match) in
         let z : _≡_ {A = ℕ} 0 1 = cc in
         omega arith
-    no-match byte.Short e y n t c q = let z : _≡_ {A = ℕ} 0 1 = cc in omega arith
 
-    value-bytes : (y : TokenType) (t : Token) (c : Cursor) → typeIn (byteIn s p typeStream) ≡ y → (p ≡ 128 → ⊥) → Value s p y t c
+    value-bytes : (y : TokenType) (t : Token) (c : Cursor) → Typed s p y → p < 128 → Value s p y t c
         → stepAt s (earlier text rows 0 0) p ≡ step.Got t c → bytesOf (s .bytes) other t ≡ bytesOf (s .bytes) text t
     unfolding bytesOf pick
     value-bytes y t c k n (traces.string l) q = refl
@@ -109,9 +108,9 @@ module _ (s : Source) (text rows : List ℕ) (p : ℕ) (low : 1 ≤ p) where
     value-bytes y t c k n (traces.digits0 b) q = refl
     value-bytes y t c k n (traces.delta b) q = refl
     value-bytes y t c k n (traces.delta0 b) q = refl
-    value-bytes y t c k n (traces.match a b) q = absurd (no-match (byteIn s p typeStream) refl k n t c q)
+    value-bytes y t c k n (traces.match a b) q = absurd (no-match k n t c q)
 
-    way-bytes : (st : Step) → StepWay s p st → stepAt s (earlier text rows 0 0) p ≡ st → (t : Token) (c : Cursor) → st ≡ step.Got t c
+    way-bytes : (st : Step) → StepWay s (earlier text rows 0 0) p st → stepAt s (earlier text rows 0 0) p ≡ st → (t : Token) (c : Cursor) → st ≡ step.Got t c
         → bytesOf (s .bytes) other t ≡ bytesOf (s .bytes) text t
     way-bytes st (halts r b) e t c q = let z : _≡_ {A = ℕ} 0 1 = cc in absurd (omega arith)
     way-bytes st (closes y) e t c q = let z : _≡_ {A = ℕ} 0 1 = cc in absurd (omega arith)
@@ -120,7 +119,7 @@ module _ (s : Source) (text rows : List ℕ) (p : ℕ) (low : 1 ≤ p) where
         subst (λ (x : Token). bytesOf (s .bytes) other x ≡ bytesOf (s .bytes) text x) z (value-bytes y u d k n v e)
 
     own-bytes : (t : Token) (c : Cursor) → stepAt s (earlier text rows 0 0) p ≡ step.Got t c → bytesOf (s .bytes) other t ≡ bytesOf (s .bytes) text t
-    own-bytes t c q = way-bytes _ (step-way s (earlier text rows 0 0) p) refl t c q
+    own-bytes t c q = way-bytes _ (step-way s (earlier text rows 0 0) p high) refl t c q
 
 -- and a name is the same whatever is kept
 name-alike : (s : Source) (text rows other table : List ℕ) (used : ℕ) (c : List ℕ) → nameOf s (earlier other table 0 0) used c ≡ nameOf s (earlier text rows 0 0) used c
@@ -150,7 +149,7 @@ module _ (s : Source) (text rows : List ℕ) (used : ℕ) where
   onward-plain p d x rest q l h ih (step.Refused r) = never-named
 
   plain-from : (f p : ℕ) (d x : Draft) → f + p ≡ 129 → 1 ≤ p → nameFrom s (earlier text rows 0 0) used f p d ≡ named x
-      → (q b : ℕ) (c : Cursor) → p ≤ q → q + d .count < p + x .count → byteIn s q typeStream ≡ byte.Value b c → Leaning (typeOf b) → ⊥
+      → (q b : ℕ) (c : Cursor) → p ≤ q → q + d .count < p + x .count → byteIn s q typeStream ≡ byte.Value b c → Leaning (typeOf (s .rules .numbers) b) → ⊥
   unfolding nameFrom onward
   plain-from zero p d x n low e q b c l h y k = never-named e
   plain-from (suc f) p d x n low e q b c l h y k =
@@ -166,41 +165,41 @@ module _ (s : Source) (text rows : List ℕ) (used : ℕ) where
       (λ g i r. plain-from f (p + 1) g x (omega arith) (omega arith) r q b c (omega arith) i y k) (stepAt s (earlier text rows 0 0) p) e)
 
 -- position 0 says one thing
-same-head : (s : Source) (t i d : ℕ) → IsHead t i → Heads s t i d → Heads s diffNumber diffStream 0 → (t ≡ diffNumber) × (d ≡ 0)
+same-head : (s : Source) (t i d : ℕ) → IsHead s t i → Heads s t i d → Heads s (diffIn s) diffStream 0 → (t ≡ diffIn s) × (d ≡ 0)
 same-head s t i d is-dup h g =
     let e = sym (h .type) ∙ g .type in
-    let z : _≡_ {A = ℕ} dupNumber diffNumber = cc in
-    absurd (omega arith)
+    let z : _≡_ {A = ℕ} (dupIn s) (diffIn s) = cc in
+    absurd (dup-not-diff (s .rules .numbers) (sym z))
 same-head s t i d is-diff h g =
     let e = sym (h .distance) ∙ g .distance in
     let z : d ≡ 0 = cc in
     (refl, z)
 
-module _ (s : Source) (m : Kept) (g : Heads s diffNumber diffStream 0) where
+module _ (s : Source) (m : Kept) (g : Heads s (diffIn s) diffStream 0) where
   stop-afresh : (n r : ℕ) → HeadStop s n r → (r ≡ 4 → ⊥) × (r ≡ 13 → ⊥)
   stop-afresh n r (no-type e) = (λ z. omega arith, λ z. omega arith)
   stop-afresh n r (no-head t c e a b) = (λ z. omega arith, λ z. omega arith)
   stop-afresh n r (no-distance t i c e h f) = (λ z. omega arith, λ z. omega arith)
   stop-afresh n r (off-rule t i d h k q) =
       let w = same-head s t i d k h g in
-      absurd (q (subst (λ (x : ℕ). Rule2 n x d) (sym (w .0)) (subst (Rule2 n diffNumber) (sym (w .1)) diff-none)))
+      absurd (q (diff-none (w .0) (w .1)))
 
   reason-afresh : (r : ℕ) → Reason s m r → (r ≡ 4 → ⊥) × (r ≡ 13 → ⊥)
   reason-afresh r (by-head x q) = stop-afresh (m .state .names) r q
   reason-afresh r (by-memory t i d h k b f) = let w = same-head s t i d k h g in absurd (omega (arith, b .0, w .1))
-  reason-afresh r (by-token x d e l q) = let b = name-refuses _ _ _ _ r q in (b .1 .1, λ z. omega (arith, b .1 .0))
+  reason-afresh r (by-token x d p len e l h c) = let b = stop-number s e p len r c in (b .1 .1, λ z. omega (arith, b .1 .0))
   reason-afresh r (by-room x first rows d o f) = (λ z. omega arith, λ z. omega arith)
 
   -- none of a name's types leans, up to so many positions
   abbrev Plain : ℕ → Type 0
-  Plain rows = (p b : ℕ) (c : Cursor) → 1 ≤ p → p ≤ rows → byteIn s p typeStream ≡ byte.Value b c → Leaning (typeOf b) → ⊥
+  Plain rows = (p b : ℕ) (c : Cursor) → 1 ≤ p → p ≤ rows → byteIn s p typeStream ≡ byte.Value b c → Leaning (typeOf (s .rules .numbers) b) → ⊥
 
   origin-afresh : (x : Draft) (first rows d : ℕ) → Origin s m x first rows d → (d ≡ 0) × Plain rows
   unfolding none nameOf
-  origin-afresh x first rows d (copied y h b f) = absurd (omega (arith, same-head s dupNumber _ d is-dup h g .1, b .0))
+  origin-afresh x first rows d (copied y h b f) = absurd (omega (arith, same-head s (dupIn s) _ d is-dup h g .1, b .0))
   origin-afresh x first rows d (walked y z e (on-none h) q) =
       (refl, λ p b c low high t l. plain-from s (m .text) (m .rows) (m .state .text) 128 1 _ x (omega arith) (omega arith) q p b c low (omega arith) t l)
-  origin-afresh x first rows d (walked y z e (on-earlier u h b f) q) = absurd (omega (arith, same-head s diffNumber diffStream d is-diff h g .1, b .0))
+  origin-afresh x first rows d (walked y z e (on-earlier u h b f) q) = absurd (omega (arith, same-head s (diffIn s) diffStream d is-diff h g .1, b .0))
 
   kept-afresh : (o : Outcome) → ReadCase s m o → (i : ℕ) → o .answer ≡ answer.Kept i → (entryAt (o .kept .names) i .distance ≡ 0) × Plain (entryAt (o .kept .names) i .rows)
   unfolding kept

@@ -1,4 +1,4 @@
--- The bench cases marked P, as one list under one statement; and blocks in which later names start afresh (C-11), as another.
+-- The bench cases marked P, as one list under one statement; and outside it, each with a statement of its own, the slip that a case shows and blocks in which later names start afresh (C-11).
 use Prim.Native.Nat.{ℕ, _<_}
 use mathlib.Core.Path.{_≡_, refl, _∙_}
 use mathlib.Core.Bool.{true}
@@ -6,19 +6,21 @@ use mathlib.Core.List.{List, [], _∷_, _++_}
 use native.Mathlib.Omega.{arith}
 use Rattle.base.specs.Choice.{pick}
 use Rattle.base.specs.Memory.{part, written}
-use Rattle.digits.specs.Digits.{low, padded, countWithin, digitCount, printed, fitsWidth, isDigit, valueFrom, valueOf}
+use Rattle.base.specs.Same.{same}
 use Rattle.base.specs.Every.{every, numbers}
+use Rattle.digits.specs.Digits.{low, padded, countWithin, digitCount, printed, fitsWidth, isDigit, valueFrom, valueOf}
 use Rattle.classes.specs.Classes.{isAllowed}
-use Rattle.spans.specs.Spans.{byteAt, four, fourAt}
-use Rattle.block.specs.Block.{spanOf, endOf, cursorOf}
-use Rattle.tokens.specs.Types.{typeOf}
+use Rattle.spans.specs.Spans.{byteAt, four, fourAt, fourBytes, zeroFrom, textEnd, textAt}
+use Rattle.block.specs.Block.{spanOf, startOf, endOf, cursorOf}
+use Rattle.tokens.specs.declared.TokenType.the-variants.{Match}
+use Rattle.tokens.specs.Types.{numbersOf, typeOf, typeNumber}
 use Rattle.tokens.specs.Tokens.{bytesOf, kindOf, numberOf, widthOf, lengthOf, rowOf}
 use Rattle.kept.specs.Tables.{room, entryAt, rowAt}
 use Rattle.kept.specs.Judgement.{entryText, entryRows, rowKind, rowFits, rowsFit, earlierFits}
-use Rattle.sources.specs.Source.{byteIn, fourIn}
-use Rattle.values.specs.Values.{charStep, digitsStep, withWidth, paddedOf, paddedStep, digits0Step}
+use Rattle.sources.specs.Source.{byteIn, fourIn, textIn}
+use Rattle.values.specs.Values.{stringStep, charStep, digitsStep, withWidth, paddedOf, paddedStep, digits0Step}
 use Rattle.sums.specs.Sums.{deltaStep, delta0Step}
-use Rattle.repeats.specs.Repeats.{hasRow, rowHere, hasKind, deltaAt, matchAt}
+use Rattle.repeats.specs.Repeats.{tokenOf, hasRow, rowHere, hasKind, deltaAt, delta0At, matchAt}
 use Rattle.steps.specs.Steps.{valueStep, typedStep, stepAt}
 use Rattle.bars.specs.Bars.{carries, barred}
 use Rattle.moving.specs.Moves.{past, valuePast}
@@ -34,22 +36,32 @@ use Rattle.splitting.specs.Split.{runClass, runEnd, runLimit, runAt, cutAt}
 use Rattle.pieces.specs.Pieces.{textPiece, numberPiece, pieceAt}
 use Rattle.rises.specs.Rises.{riseOf}
 use Rattle.choices.specs.Choices.{byRise, leanDigits, lean, choiceAt, choicesFrom, choicesOf}
-use Rattle.references.specs.References.{anew, leansOn}
-use Rattle.demands.specs.Bench.{refusedAt, typed, cases, tokenCases, blockCases, writingCases}
+use Rattle.references.specs.References.{anew, referenceOf, leansOn}
+use Rattle.laying.specs.Puts as laying
+use Rattle.inputs.specs.Inputs as inputs
+use Rattle.valueputs.specs.ValuePuts.{piecePuts, valuePuts}
+use Rattle.tokenputs.specs.TokenPuts.{pieceType, choiceType, choicePuts, tokenPuts}
+use Rattle.nameputs.specs.NamePuts.{headPuts, referencePuts, namePuts, putsFrom, putsOf}
+use Rattle.writing.specs.Writes.{countable, laidOf, judgedOf, writeOf}
+use Rattle.demands.specs.Bench.{refusedAt, small, readOver, alone, cases, tokenCases, blockCases, writingCases, slipCases}
 use Rattle.demands.specs.AfreshCases.{wider, afreshCases}
 use Rattle.demands.specs.Runs.{left}
-use Rattle.demands.specs.Cases.{Case, Hold, shown, Stream, bytesIn, dirFrom, inDirectory, Buffers, small, Told, told, readOver, readIn}
+use Rattle.demands.specs.Cases.{Case, Hold, Stream, typeBytes, bytesIn, dirFrom, inDirectory, Buffers, Told, told, readIn, streamsIn, wroteIn, writeIn}
 use Rattle.demands.proofs.Lemmas.Blocks.{curFrom, nexts, quick, over}
 
 -- a read over a small block, by what it computes to
 block : (room : Buffers) (n : ℕ) (xs : List Stream) (said : Told) → n < 65536 → inDirectory xs ≡ true → quick room n xs ≡ said → readIn room n xs ≡ said
 block room n xs said h ok e = over room n xs h ok ∙ e
 
+-- the first read, the second and the fourth
 first : (xs : List Stream) (said : Told) → inDirectory xs ≡ true → quick small 0 xs ≡ said → readOver 0 xs ≡ said
 first xs said ok e = block small 0 xs said (omega arith) ok e
 
-fourth-read : (xs : List Stream) (said : Told) → inDirectory xs ≡ true → quick small 3 xs ≡ said → readOver 3 xs ≡ said
-fourth-read xs said ok e = block small 3 xs said (omega arith) ok e
+second : (xs : List Stream) (said : Told) → inDirectory xs ≡ true → quick small 1 xs ≡ said → readOver 1 xs ≡ said
+second xs said ok e = block small 1 xs said (omega arith) ok e
+
+fourth : (xs : List Stream) (said : Told) → inDirectory xs ≡ true → quick small 3 xs ≡ said → readOver 3 xs ≡ said
+fourth xs said ok e = block small 3 xs said (omega arith) ok e
 
 -- several equations of one case
 two : {A : Type 0} {a b c d : A} → a ≡ b → c ≡ d → _≡_ {A = A × A} (a, c) (b, d)
@@ -61,30 +73,44 @@ three p q r = λ i. (p i, q i, r i)
 four-of : {A : Type 0} {a b c d e f g h : A} → a ≡ b → c ≡ d → e ≡ f → g ≡ h → _≡_ {A = A × A × A × A} (a, c, e, g) (b, d, f, h)
 four-of p q r s = λ i. (p i, q i, r i, s i)
 
-tokens-hold : Hold tokenCases
-unfolding pick low padded countWithin digitCount printed fitsWidth bytesOf withWidth paddedOf paddedStep digits0Step deltaStep delta0Step shown
-tokens-hold = (refl, (refl, (refl, (refl, (refl, tt)))))
-
--- blocks, those in which later names start afresh too
-computed : Hold (blockCases ++ afreshCases)
-unfolding pick part written every numbers isAllowed byteAt four fourAt spanOf endOf cursorOf typeOf bytesOf kindOf numberOf widthOf lengthOf rowOf room entryAt rowAt entryText entryRows rowKind rowFits rowsFit earlierFits byteIn fourIn charStep hasRow hasKind rowHere deltaAt deltaStep digitsStep low padded countWithin digitCount printed matchAt valueStep carries barred typedStep stepAt past typeIn valuePast grown ended printable onward nameFrom nameOf atName dupHead diffHead typedHead headOf roomFor kept keepOf headPast dupOf namedOf diffOf rowsOf none entryBack headedOf nextOf told quick nexts left bytesIn dirFrom curFrom inDirectory
+-- blocks, those outside the twelve too
+computed : Hold (tokenCases ++ blockCases ++ slipCases ++ afreshCases)
+unfolding pick part written every numbers isAllowed byteAt four fourAt fourBytes zeroFrom textEnd textAt spanOf endOf cursorOf numbersOf typeOf typeNumber bytesOf kindOf numberOf widthOf lengthOf rowOf room entryAt rowAt entryText entryRows rowKind rowFits rowsFit earlierFits byteIn fourIn textIn stringStep charStep digitsStep withWidth paddedOf paddedStep digits0Step deltaStep delta0Step tokenOf hasRow hasKind rowHere deltaAt delta0At low padded countWithin digitCount printed fitsWidth matchAt valueStep carries barred typedStep stepAt past typeIn valuePast grown ended printable onward nameFrom nameOf atName dupHead diffHead typedHead headOf roomFor kept keepOf headPast dupOf namedOf diffOf rowsOf none entryBack headedOf nextOf told quick nexts left typeBytes bytesIn dirFrom curFrom inDirectory
 computed = (
-  three (first _ _ refl refl) (first _ _ refl refl) (first _ _ refl refl),
+  first _ _ refl refl,
   (
-    rw (first (typed (13 ∷ []) [] []) (refusedAt 5 0 []) refl refl),
+    two (first _ _ refl refl) (first _ _ refl refl),
     (
-      two (fourth-read _ _ refl refl) (fourth-read _ _ refl refl),
+      two (first _ _ refl refl) (first _ _ refl refl),
       (
-        first _ _ refl refl,
+        two (second _ _ refl refl) (second _ _ refl refl),
         (
-          four-of (first _ _ refl refl) (first _ _ refl refl) (first _ _ refl refl) (first _ _ refl refl),
+          two (second _ _ refl refl) (second _ _ refl refl),
           (
-            block wider 1 _ _ (omega arith) refl refl,
+            three (first _ _ refl refl) (first _ _ refl refl) (first _ _ refl refl),
             (
-              two (block wider 1 _ _ (omega arith) refl refl) (block wider 1 _ _ (omega arith) refl refl),
+              rw (first (alone (Match ∷ []) [] []) (refusedAt 5 0 []) refl refl),
               (
-                two (block wider 2 _ _ (omega arith) refl refl) (block wider 3 _ _ (omega arith) refl refl),
-                (three (block wider 1 _ _ (omega arith) refl refl) (block wider 1 _ _ (omega arith) refl refl) (block wider 1 _ _ (omega arith) refl refl), tt),
+                four-of (fourth _ _ refl refl) (fourth _ _ refl refl) (fourth _ _ refl refl) (fourth _ _ refl refl),
+                (
+                  first _ _ refl refl,
+                  (
+                    four-of (first _ _ refl refl) (first _ _ refl refl) (first _ _ refl refl) (first _ _ refl refl),
+                    (
+                      two (second _ _ refl refl) (second _ _ refl refl),
+                      (
+                        block wider 1 _ _ (omega arith) refl refl,
+                        (
+                          two (block wider 1 _ _ (omega arith) refl refl) (block wider 1 _ _ (omega arith) refl refl),
+                          (
+                            two (block wider 2 _ _ (omega arith) refl refl) (block wider 3 _ _ (omega arith) refl refl),
+                            (three (block wider 1 _ _ (omega arith) refl refl) (block wider 1 _ _ (omega arith) refl refl) (block wider 1 _ _ (omega arith) refl refl), tt),
+                          ),
+                        ),
+                      ),
+                    ),
+                  ),
+                ),
               ),
             ),
           ),
@@ -95,7 +121,7 @@ computed = (
 )
 
 writing-holds : Hold writingCases
-unfolding pick part isDigit valueFrom valueOf runClass runEnd runLimit runAt cutAt textPiece numberPiece pieceAt riseOf byRise leanDigits lean choiceAt choicesFrom choicesOf anew leansOn
+unfolding pick part written same isDigit every isAllowed valueFrom valueOf fourBytes spanOf startOf endOf numbersOf typeNumber runClass runEnd runLimit runAt cutAt textPiece numberPiece pieceAt riseOf byRise leanDigits lean choiceAt choicesFrom choicesOf anew referenceOf leansOn laying.share laying.contentOf laying.joined laying.startIn laying.tableOf laying.directoryOf laying.totalOf laying.bytesOf inputs.namesAfter inputs.namesOf inputs.ended inputs.goodName inputs.judgedFrom pieceType choiceType piecePuts valuePuts choicePuts tokenPuts headPuts referencePuts namePuts putsFrom putsOf countable laidOf judgedOf writeOf typeBytes bytesIn streamsIn wroteIn writeIn
 writing-holds = (refl, (refl, tt))
 
 parted : (xs ys : List Case) → Hold (xs ++ ys) → Hold xs × Hold ys
@@ -106,10 +132,18 @@ join : (xs ys : List Case) → Hold xs → Hold ys → Hold (xs ++ ys)
 join [] ys p q = q
 join (x ∷ xs) ys p q = (p .0, join xs ys (p .1) q)
 
+-- the twelve that are blocks, and the others
+blocks : Hold (tokenCases ++ blockCases) × Hold (slipCases ++ afreshCases)
+blocks = parted (tokenCases ++ blockCases) (slipCases ++ afreshCases) computed
+
 -- each case is as the paper says
 pub all-hold : Hold cases
-all-hold = join (tokenCases ++ blockCases) writingCases (join tokenCases blockCases tokens-hold (parted blockCases afreshCases computed .0)) writing-holds
+all-hold = join (tokenCases ++ blockCases) writingCases (blocks .0) writing-holds
 
--- and so is each block in which later names start afresh
+-- and so is the slip that tempts
+pub slip-holds : Hold slipCases
+slip-holds = parted slipCases afreshCases (blocks .1) .0
+
+-- and each block in which later names start afresh
 pub afresh-hold : Hold afreshCases
-afresh-hold = parted blockCases afreshCases computed .1
+afresh-hold = parted slipCases afreshCases (blocks .1) .1

@@ -1,29 +1,40 @@
 -- One outcome only, and the demands for whatever meets the contracts. A contract of a public call is an equation: the answer and every lent
 -- buffer at exit, put together, are what the definition gives. So the theorems about the definitions are theorems about the code.
-use Prim.Native.Nat.{ℕ}
+use Prim.Native.Nat.{ℕ, _≤_, _<_}
 use mathlib.Core.Path.{_≡_, refl, sym, ap, _∙_, subst}
 use mathlib.Core.List.{List, [], _∷_}
+use mathlib.Core.Logic.{⊎-elim}
+use native.Mathlib.Omega.{arith}
 use lib.ListN.{length}
+use Rattle.base.specs.Same.{same}
+use Rattle.base.proofs.Choice.{by-test}
+use Rattle.base.proofs.Equal.{same-equal, differ-same}
+use Rattle.base.proofs.Numbers.{lt-or-ge}
 use Rattle.block.specs.declared.Refusal.{Refusal}
 use Rattle.block.specs.declared.State.{State}
 use Rattle.block.specs.declared.Opened.the-variants as opened
 use Rattle.block.specs.Block.{Opening, opening, openOf}
+use Rattle.block.proofs.Laws.{at-end-each}
 use Rattle.kept.specs.Tables.{Kept, keeping}
-use Rattle.sources.specs.Source.{Source}
+use Rattle.sources.specs.Source.{Source, source}
 use Rattle.entries.specs.declared.Answer.the-variants as answer
 use Rattle.entries.specs.Outcomes.{Outcome}
+use Rattle.entries.specs.Entries.{kept}
 use Rattle.reads.specs.Reads.{readOf}
 use Rattle.reading.specs.Blocks.{blockOf}
 use Rattle.claims.specs.declared.Verdict.{Verdict}
 use Rattle.claims.specs.Claims.{claimOf}
 use Rattle.writing.specs.Writes.{Writing, writeOf}
-use Rattle.demands.specs.Runs.{Lent, lent, left, Fresh, Call, after, run}
-use Rattle.demands.specs.Right.{Demand3}
-use Rattle.demands.specs.Traces.{Seen, nothing, a-read, a-claim}
+use Rattle.demands.specs.Runs.{Lent, lent, read, left, Fresh, Call, reading, claiming, after, run, claimed, nameAt}
+use Rattle.demands.specs.Refusals.{ReadCase, refuses, ends, keeps}
+use Rattle.demands.specs.Right.{Judged, Sane, Demand3}
+use Rattle.demands.specs.Traces.{Seen, nothing, a-read, a-claim, ReadSays, next-name, all-read, stops, ClaimSays, is-name, is-other, not-read, EachSeen}
 use Rattle.demands.specs.Untouched.{Untouched, Whole, Unwritten}
+use Rattle.demands.proofs.Lemmas.Ways.{read-case}
 use Rattle.demands.proofs.Untouched.{read-refused, open-refused, block-refused, block-reads}
 use Rattle.demands.proofs.Unwritten.{write-refused}
 use Rattle.demands.proofs.Demand3.{demand-3, block-demand-3}
+use Rattle.tokens.specs.Types.{Rules}
 
 -- two outcomes that meet one equation are the same outcome
 pub one-outcome : {A : Type 0} {meant x y : A} → x ≡ meant → y ≡ meant → x ≡ y
@@ -42,8 +53,8 @@ pub one-verdict : (number : ℕ) (claim : List ℕ) (s : State) (text names : Li
     → x ≡ claimOf number claim s text names → y ≡ claimOf number claim s text names → x ≡ y
 one-verdict number claim s text names x y = one-outcome
 
-pub one-writing : (input dir bytes : List ℕ) (x y : Writing) → x ≡ writeOf input dir bytes → y ≡ writeOf input dir bytes → x ≡ y
-one-writing input dir bytes x y = one-outcome
+pub one-writing : (rules : Rules) (input dir bytes : List ℕ) (x y : Writing) → x ≡ writeOf rules input dir bytes → y ≡ writeOf rules input dir bytes → x ≡ y
+one-writing rules input dir bytes x y = one-outcome
 
 -- demand 1 of the code
 pub opening-untouched : (len : ℕ) (dir : List ℕ) (count : ℕ) (cur : List ℕ) (o : Opening) → o ≡ openOf len dir count cur
@@ -54,8 +65,8 @@ opening-untouched len dir count cur o e =
 pub read-untouched : (s : Source) (m : Kept) (o : Outcome) → o ≡ readOf s m → (r : Refusal) → o .answer ≡ answer.Refused r → Untouched s m o
 read-untouched s m o e = subst (λ (x : Outcome). (r : Refusal) → x .answer ≡ answer.Refused r → Untouched s m x) (sym e) (read-refused s m)
 
-pub writing-untouched : (input dir bytes : List ℕ) (w : Writing) → w ≡ writeOf input dir bytes → Unwritten dir bytes w
-writing-untouched input dir bytes w e = subst (Unwritten dir bytes) (sym e) (write-refused input dir bytes)
+pub writing-untouched : (rules : Rules) (input dir bytes : List ℕ) (w : Writing) → w ≡ writeOf rules input dir bytes → Unwritten dir bytes w
+writing-untouched rules input dir bytes w e = subst (Unwritten dir bytes) (sym e) (write-refused rules input dir bytes)
 
 pub block-untouched : (s : Source) (m : Kept) (count : ℕ) (o : Outcome) → o ≡ blockOf s m count
     → (r : Refusal) → openOf (length (s .bytes)) (s .dir) count (s .cur) .answer ≡ opened.Refused r → (o .answer ≡ answer.Refused r) × Untouched s m o
@@ -63,28 +74,75 @@ block-untouched s m count o e r f = subst (λ (x : Outcome). (x .answer ≡ answ
 
 pub block-keeps : (s : Source) (m : Kept) (count : ℕ) (o : Outcome) → o ≡ blockOf s m count
     → (st : State) (cur : List ℕ) → openOf (length (s .bytes)) (s .dir) count (s .cur) ≡ opening (opened.Fresh st) cur
-    → Whole (s .bytes) (s .dir) (lent cur (keeping st (m .text) (m .names) (m .rows))) o
+    → Whole (s .rules) (s .bytes) (s .dir) (lent cur (keeping st (m .text) (m .names) (m .rows))) o
 block-keeps s m count o e st cur f =
-    subst (Whole (s .bytes) (s .dir) (lent cur (keeping st (m .text) (m .names) (m .rows)))) (sym e) (block-reads s m count st cur f)
+    subst (Whole (s .rules) (s .bytes) (s .dir) (lent cur (keeping st (m .text) (m .names) (m .rows)))) (sym e) (block-reads s m count st cur f)
 
 -- what was seen of calls that meet their contracts is what the definitions run to
-pub seen-run : (bytes dir : List ℕ) (l z : Lent) (calls : List Call) → Seen bytes dir l calls z → z ≡ run bytes dir l calls
+pub seen-run : (rules : Rules) (bytes dir : List ℕ) (l z : Lent) (calls : List Call) → Seen rules bytes dir l calls z → z ≡ run rules bytes dir l calls
 unfolding run after
-seen-run bytes dir l z [] (nothing a) = refl
-seen-run bytes dir l z (c ∷ cs) (a-read a b o calls e t) = seen-run bytes dir (left o) z cs t ∙ ap (λ (x : Outcome). run bytes dir (left x) cs) e
-seen-run bytes dir l z (c ∷ cs) (a-claim a b number claim v calls e t) = seen-run bytes dir l z cs t
+seen-run rules bytes dir l z [] (nothing a) = refl
+seen-run rules bytes dir l z (c ∷ cs) (a-read a b o calls e t) = seen-run rules bytes dir (left o) z cs t ∙ ap (λ (x : Outcome). run rules bytes dir (left x) cs) e
+seen-run rules bytes dir l z (c ∷ cs) (a-claim a b number claim v calls e t) = seen-run rules bytes dir l z cs t
 
--- demand 3 of the code
-pub demand-3-seen : (bytes dir : List ℕ) (count : ℕ) (l z : Lent) → Fresh bytes dir count l → (calls : List Call) → Seen bytes dir l calls z → Demand3 bytes dir l z
-demand-3-seen bytes dir count l z f calls t =
-    subst (λ (x : Lent). Demand3 bytes dir l x) (sym (seen-run bytes dir l z calls t)) (demand-3 bytes dir count l f calls)
+-- what a read answers where demand 3 holds
+case-says : (s : Source) (m : Kept) (o : Outcome) → ReadCase s m o → ((r : Refusal) → o .answer ≡ answer.Refused r → Sane (lent (s .cur) m) r)
+    → ReadSays (s .dir) (lent (s .cur) m) (o .answer)
+unfolding kept
+case-says s m o (refuses r y) g = stops r (g r refl)
+case-says s m o (ends a b c) g = all-read b (at-end-each (s .dir) (s .cur) c)
+case-says s m o (keeps x first rows d a b c e) g = next-name (omega (arith, a .counts .kept, b))
+
+pub read-says : (rules : Rules) (bytes dir : List ℕ) (f l : Lent) → Demand3 rules bytes dir f l → ReadSays dir l (read rules bytes dir l .answer)
+unfolding read
+read-says rules bytes dir f l d = case-says (source rules bytes dir (l .cur)) (l .kept) _ (read-case _ _) (d .refusals)
+
+-- and what a claim does
+pub claim-says : (l : Lent) (number : ℕ) (claim : List ℕ) → Judged l number claim → ClaimSays l number claim (claimed l number claim)
+claim-says l number claim j =
+    ⊎-elim
+    (λ (h : number < l .kept .state .names).
+    by-test (same claim (nameAt l number))
+    (λ t. let e : claim ≡ nameAt l number = same-equal _ _ t in rw (j .confirmed h e) (is-name h e))
+    (λ t. let n : claim ≡ nameAt l number → ⊥ = differ-same _ _ t in rw (j .denied h n) (is-other h n)))
+    (λ (h : l .kept .state .names ≤ number). rw (j .unread h) (not-read h))
+    (lt-or-ge number (l .kept .state .names))
+
+-- where demand 3 holds whatever calls are made, it holds of each call that was seen
+module _ (rules : Rules) (bytes dir : List ℕ) (f : Lent) where
+  each-seen : (l z : Lent) (calls : List Call) (t : Seen rules bytes dir l calls z) → ((cs : List Call) → Demand3 rules bytes dir f (run rules bytes dir l cs)) → EachSeen rules bytes dir f l z calls t
+  unfolding EachSeen run after
+  each-seen l z [] (nothing a) g = g []
+  each-seen l z (c ∷ cs) (a-read a b o calls e t) g = (
+    g [],
+    (
+      rw e (read-says rules bytes dir f l (g [])),
+      each-seen (left o) z cs t (λ x. subst (λ (y : Outcome). Demand3 rules bytes dir f (run rules bytes dir (left y) x)) (sym e) (g (reading ∷ x))),
+    ),
+  )
+  each-seen l z (c ∷ cs) (a-claim a b number claim v calls e t) g = (
+    g [],
+    (rw e (claim-says l number claim (g [] .claims number claim)), each-seen l z cs t (λ x. g (claiming number claim ∷ x))),
+  )
+
+  -- so it holds of the last memory
+  pub last-seen : (l z : Lent) (calls : List Call) (t : Seen rules bytes dir l calls z) → EachSeen rules bytes dir f l z calls t → Demand3 rules bytes dir f z
+  unfolding EachSeen
+  last-seen l z [] (nothing a) h = h
+  last-seen l z (c ∷ cs) (a-read a b o calls e t) h = last-seen (left o) z cs t (h .1 .1)
+  last-seen l z (c ∷ cs) (a-claim a b number claim v calls e t) h = last-seen l z cs t (h .1 .1)
+
+-- demand 3 of the code, of each call that was seen
+pub demand-3-seen : (rules : Rules) (bytes dir : List ℕ) (count : ℕ) (l z : Lent) → Fresh bytes dir count l → (calls : List Call) (t : Seen rules bytes dir l calls z)
+    → EachSeen rules bytes dir l l z calls t
+demand-3-seen rules bytes dir count l z f calls t = each-seen rules bytes dir l l z calls t (demand-3 rules bytes dir count l f)
 
 -- and from a whole-block read on
 pub block-demand-3-seen : (s : Source) (m : Kept) (count : ℕ) (st : State) (cur : List ℕ)
     → openOf (length (s .bytes)) (s .dir) count (s .cur) ≡ opening (opened.Fresh st) cur
-    → (o : Outcome) → o ≡ blockOf s m count → (z : Lent) (calls : List Call) → Seen (s .bytes) (s .dir) (left o) calls z
-    → Demand3 (s .bytes) (s .dir) (lent cur (keeping st (m .text) (m .names) (m .rows))) z
+    → (o : Outcome) → o ≡ blockOf s m count → (z : Lent) (calls : List Call) (t : Seen (s .rules) (s .bytes) (s .dir) (left o) calls z)
+    → EachSeen (s .rules) (s .bytes) (s .dir) (lent cur (keeping st (m .text) (m .names) (m .rows))) (left o) z calls t
 block-demand-3-seen s m count st cur e o f z calls t =
-    subst (Demand3 (s .bytes) (s .dir) (lent cur (keeping st (m .text) (m .names) (m .rows))))
-    (sym (seen-run (s .bytes) (s .dir) (left o) z calls t ∙ ap (λ (x : Outcome). run (s .bytes) (s .dir) (left x) calls) f))
-    (block-demand-3 s m count st cur e calls)
+    let l : Lent = lent cur (keeping st (m .text) (m .names) (m .rows)) in
+    each-seen (s .rules) (s .bytes) (s .dir) l (left o) z calls t
+    (λ x. subst (λ (y : Outcome). Demand3 (s .rules) (s .bytes) (s .dir) l (run (s .rules) (s .bytes) (s .dir) (left y) x)) (sym f) (block-demand-3 s m count st cur e x))

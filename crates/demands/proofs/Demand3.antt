@@ -1,16 +1,23 @@
 -- Demand 3: from a fresh start on one block, after any sequence of reads and claims, refused ones too.
-use Prim.Native.Nat.{ℕ, suc, _+_, _-_, _<_}
+use Prim.Native.Nat.{ℕ, suc, _+_, _-_, _≤_, _<_}
 use mathlib.Core.Path.{_≡_, refl, sym, ap, _∙_, subst}
+use mathlib.Core.Logic.{⊎-elim}
 use mathlib.Core.List.{List, [], _∷_, _++_}
 use native.Mathlib.Omega.{arith}
 use native.Mathlib.Nat.{add-zero}
+use borrow.Author.Tests.{ltb-false}
+use lib.Dec.{ltb}
 use lib.ListN.{length, replicate}
-use Rattle.base.proofs.Choice.{never}
+use Rattle.base.proofs.Choice.{never, pick-true, pick-false, by-test}
 use Rattle.block.specs.declared.State.{State}
 use Rattle.block.specs.declared.Refusal.{Refusal}
 use Rattle.block.specs.declared.Opened.the-variants as opened
 use Rattle.block.specs.Block.{opening, openOf, state}
-use Rattle.block.proofs.Laws.{open-sound, open-inside}
+use Rattle.block.specs.declared.Refusal.the-variants as refusal
+use Rattle.block.proofs.Laws.{open-sound, open-inside, accepted}
+use Rattle.words.specs.Words.{telling, Ending, done, unread, stopped, Telling}
+use Rattle.demands.specs.ByWords.{endsWith, answerAt, ByWords, EndsAt, SameName}
+use Rattle.demands.proofs.Lemmas.Told.{fresh-reached, keeps-reached, by-words}
 use Rattle.kept.specs.declared.Entry.{Entry}
 use Rattle.kept.specs.Tables.{Kept, keeping, entryAt}
 use Rattle.kept.specs.Inside.{TextCounted}
@@ -36,15 +43,16 @@ use Rattle.demands.proofs.Lemmas.Keeping.{Sure, sure-right, fresh-sure,
 use Rattle.demands.proofs.Lemmas.Later.{later-adds, text-later}
 use Rattle.demands.proofs.Adds.{read-adds}
 use Rattle.demands.proofs.Untouched.{block-reads}
+use Rattle.tokens.specs.Types.{Rules}
 
-run-sure : (bytes dir : List ℕ) (cs : List Call) (l : Lent) → Sure bytes dir l → Sure bytes dir (run bytes dir l cs)
+run-sure : (rules : Rules) (bytes dir : List ℕ) (cs : List Call) (l : Lent) → Sure bytes dir l → Sure bytes dir (run rules bytes dir l cs)
 unfolding run
-run-sure bytes dir [] l s = s
-run-sure bytes dir (c ∷ cs) l s = run-sure bytes dir cs (after bytes dir l c) (after-sure bytes dir l c s)
+run-sure rules bytes dir [] l s = s
+run-sure rules bytes dir (c ∷ cs) l s = run-sure rules bytes dir cs (after rules bytes dir l c) (after-sure rules bytes dir l c s)
 
 -- at all times: the counts and cursors are sound, every kept name's tokens, printed end to end, are that name, and each reference, a distance of 1 or more (C-11), points to a lower number
-pub always-right : (bytes dir : List ℕ) (count : ℕ) (l : Lent) → Fresh bytes dir count l → (calls : List Call) → Right bytes dir (run bytes dir l calls)
-always-right bytes dir count l f calls = sure-right bytes dir (run bytes dir l calls) (run-sure bytes dir calls l (fresh-sure bytes dir count l f))
+pub always-right : (rules : Rules) (bytes dir : List ℕ) (count : ℕ) (l : Lent) → Fresh bytes dir count l → (calls : List Call) → Right bytes dir (run rules bytes dir l calls)
+always-right rules bytes dir count l f calls = sure-right bytes dir (run rules bytes dir l calls) (run-sure rules bytes dir calls l (fresh-sure bytes dir count l f))
 
 -- claims over tables that are right
 right-judged : (bytes dir : List ℕ) (l : Lent) → Right bytes dir l → (number : ℕ) (claim : List ℕ) → Judged l number claim
@@ -66,9 +74,9 @@ right-judged bytes dir l r number claim =
     }
 
 -- every claim at any time
-pub always-judged : (bytes dir : List ℕ) (count : ℕ) (l : Lent) → Fresh bytes dir count l → (calls : List Call)
-    → (number : ℕ) (claim : List ℕ) → Judged (run bytes dir l calls) number claim
-always-judged bytes dir count l f calls number claim = right-judged bytes dir (run bytes dir l calls) (always-right bytes dir count l f calls) number claim
+pub always-judged : (rules : Rules) (bytes dir : List ℕ) (count : ℕ) (l : Lent) → Fresh bytes dir count l → (calls : List Call)
+    → (number : ℕ) (claim : List ℕ) → Judged (run rules bytes dir l calls) number claim
+always-judged rules bytes dir count l f calls number claim = right-judged bytes dir (run rules bytes dir l calls) (always-right rules bytes dir count l f calls) number claim
 
 -- a read over what is lent keeps a name, or leaves everything as it was
 by-way : {P : Type 0} (s : Source) (m : Kept) (o : Outcome) → ReadCase s m o → ((i : ℕ) → o .answer ≡ answer.Kept i → P) → (left o ≡ lent (s .cur) m → P) → P
@@ -77,53 +85,53 @@ by-way s m o (refuses r y) f g = g refl
 by-way s m o (ends a b c) f g = g refl
 by-way s m o (keeps x first rows d a b c e) f g = f (m .state .names) refl
 
-pub read-or-not : {P : Type 0} (bytes dir : List ℕ) (l : Lent) → ((i : ℕ) → read bytes dir l .answer ≡ answer.Kept i → P) → (left (read bytes dir l) ≡ l → P) → P
+pub read-or-not : (rules : Rules) {P : Type 0} (bytes dir : List ℕ) (l : Lent) → ((i : ℕ) → read rules bytes dir l .answer ≡ answer.Kept i → P) → (left (read rules bytes dir l) ≡ l → P) → P
 unfolding read
-read-or-not bytes dir l f g = by-way (source bytes dir (l .cur)) (l .kept) (readOf (source bytes dir (l .cur)) (l .kept)) (read-case _ _) f g
+read-or-not rules bytes dir l f g = by-way (source rules bytes dir (l .cur)) (l .kept) (readOf (source rules bytes dir (l .cur)) (l .kept)) (read-case _ _) f g
 
 -- the calls that kept nothing leave no mark: the memory is that of as many reads in a row as kept a name
-pub only-kept : (bytes dir : List ℕ) (calls : List Call) (l : Lent) → Reads bytes dir l (run bytes dir l calls)
+pub only-kept : (rules : Rules) (bytes dir : List ℕ) (calls : List Call) (l : Lent) → Reads rules bytes dir l (run rules bytes dir l calls)
 unfolding run after
-only-kept bytes dir [] l = record { names = 0; reads = none l }
-only-kept bytes dir (reading ∷ cs) l =
-    let h : Reads bytes dir (left (read bytes dir l)) (run bytes dir (left (read bytes dir l)) cs) = only-kept bytes dir cs (left (read bytes dir l)) in
-    read-or-not bytes dir l
+only-kept rules bytes dir [] l = record { names = 0; reads = none l }
+only-kept rules bytes dir (reading ∷ cs) l =
+    let h : Reads rules bytes dir (left (read rules bytes dir l)) (run rules bytes dir (left (read rules bytes dir l)) cs) = only-kept rules bytes dir cs (left (read rules bytes dir l)) in
+    read-or-not rules bytes dir l
     (λ i e. record { names = suc (h .names); reads = next (h .names) i l _ e (h .reads) })
-    (λ e. subst (λ (z : Lent). Reads bytes dir z (run bytes dir (left (read bytes dir l)) cs)) e h)
-only-kept bytes dir (claiming n b ∷ cs) l = only-kept bytes dir cs l
+    (λ e. subst (λ (z : Lent). Reads rules bytes dir z (run rules bytes dir (left (read rules bytes dir l)) cs)) e h)
+only-kept rules bytes dir (claiming n b ∷ cs) l = only-kept rules bytes dir cs l
 
 -- the same reads, made one after another and nothing between
-pub plain-reads : (bytes dir : List ℕ) (n : ℕ) (l z : Lent) → Keeps bytes dir n l z → run bytes dir l (replicate n reading) ≡ z
+pub plain-reads : (rules : Rules) (bytes dir : List ℕ) (n : ℕ) (l z : Lent) → Keeps rules bytes dir n l z → run rules bytes dir l (replicate n reading) ≡ z
 unfolding run after
-plain-reads bytes dir n l z (none x) = refl
-plain-reads bytes dir n l z (next k i x y e h) = plain-reads bytes dir k _ z h
+plain-reads rules bytes dir n l z (none x) = refl
+plain-reads rules bytes dir n l z (next k i x y e h) = plain-reads rules bytes dir k _ z h
 
-module _ (bytes dir : List ℕ) where
-  one-later : (l : Lent) (i : ℕ) → read bytes dir l .answer ≡ answer.Kept i → Later (l .kept) (left (read bytes dir l) .kept)
+module _ (rules : Rules) (bytes dir : List ℕ) where
+  one-later : (l : Lent) (i : ℕ) → read rules bytes dir l .answer ≡ answer.Kept i → Later (l .kept) (left (read rules bytes dir l) .kept)
   unfolding read left
-  one-later l i e = later-adds (source bytes dir (l .cur)) (l .kept) i _ (read-adds (source bytes dir (l .cur)) (l .kept) i e)
+  one-later l i e = later-adds (source rules bytes dir (l .cur)) (l .kept) i _ (read-adds (source rules bytes dir (l .cur)) (l .kept) i e)
 
-  one-name : (l : Lent) (i : ℕ) → read bytes dir l .answer ≡ answer.Kept i → left (read bytes dir l) .kept .state .names ≡ l .kept .state .names + 1
+  one-name : (l : Lent) (i : ℕ) → read rules bytes dir l .answer ≡ answer.Kept i → left (read rules bytes dir l) .kept .state .names ≡ l .kept .state .names + 1
   unfolding read left
-  one-name l i e = ap (λ (x : State). x .names) (read-adds (source bytes dir (l .cur)) (l .kept) i e .counts)
+  one-name l i e = ap (λ (x : State). x .names) (read-adds (source rules bytes dir (l .cur)) (l .kept) i e .counts)
 
   -- so many reads keep so many names, and what is kept stays
-  pub so-many : (n : ℕ) (l z : Lent) → Keeps bytes dir n l z → z .kept .state .names ≡ l .kept .state .names + n
+  pub so-many : (n : ℕ) (l z : Lent) → Keeps rules bytes dir n l z → z .kept .state .names ≡ l .kept .state .names + n
   so-many n l z (none x) = sym (add-zero _)
   so-many n l z (next k i x y e h) = so-many k _ z h ∙ omega (arith, one-name l i e)
 
-  keeps-later : (n : ℕ) (l z : Lent) → Keeps bytes dir n l z → Later (l .kept) (z .kept)
+  keeps-later : (n : ℕ) (l z : Lent) → Keeps rules bytes dir n l z → Later (l .kept) (z .kept)
   keeps-later n l z (none x) = later-same (l .kept)
   keeps-later n l z (next k i x y e h) = later-then (l .kept) _ (z .kept) (one-later l i e) (keeps-later k _ z h)
 
   -- reads that stop where no name is kept go through wherever other reads came
-  reads-on : (n k : ℕ) (l z w : Lent) → Keeps bytes dir n l z → Keeps bytes dir k l w → ((i : ℕ) → read bytes dir w .answer ≡ answer.Kept i → ⊥) → Reads bytes dir z w
+  reads-on : (n k : ℕ) (l z w : Lent) → Keeps rules bytes dir n l z → Keeps rules bytes dir k l w → ((i : ℕ) → read rules bytes dir w .answer ≡ answer.Kept i → ⊥) → Reads rules bytes dir z w
   reads-on n k l z w (none x) g s = record { names = k; reads = g }
   reads-on n k l z w (next a i x y e h) (none u) s = absurd (s i e)
   reads-on n k l z w (next a i x y e h) (next b j u v f g) s = reads-on a b _ z w h g s
 
   -- a name that is kept stays the same name
-  name-later : (n : ℕ) (l z : Lent) → Right bytes dir l → Keeps bytes dir n l z → (i : ℕ) → i < l .kept .state .names → nameAt l i ≡ nameAt z i
+  name-later : (n : ℕ) (l z : Lent) → Right bytes dir l → Keeps rules bytes dir n l z → (i : ℕ) → i < l .kept .state .names → nameAt l i ≡ nameAt z i
   unfolding nameAt
   name-later n l z r k i h =
       let e : Entry = entryAt (l .kept .names) i in
@@ -136,31 +144,31 @@ module _ (bytes dir : List ℕ) where
 -- after any calls the names are the first of those that a whole-block read keeps
 pub first-names : (s : Source) (m : Kept) (count : ℕ) (st : State) (cur : List ℕ)
     → openOf (length (s .bytes)) (s .dir) count (s .cur) ≡ opening (opened.Fresh st) cur
-    → (calls : List Call) (i : ℕ) → i < run (s .bytes) (s .dir) (lent cur (keeping st (m .text) (m .names) (m .rows))) calls .kept .state .names
+    → (calls : List Call) (i : ℕ) → i < run (s .rules) (s .bytes) (s .dir) (lent cur (keeping st (m .text) (m .names) (m .rows))) calls .kept .state .names
     → (i < blockOf s m count .kept .state .names)
-    × (nameAt (run (s .bytes) (s .dir) (lent cur (keeping st (m .text) (m .names) (m .rows))) calls) i ≡ nameAt (left (blockOf s m count)) i)
+    × (nameAt (run (s .rules) (s .bytes) (s .dir) (lent cur (keeping st (m .text) (m .names) (m .rows))) calls) i ≡ nameAt (left (blockOf s m count)) i)
 unfolding left
 first-names s m count st cur e calls i h =
     let l : Lent = lent cur (keeping st (m .text) (m .names) (m .rows)) in
-    let z : Lent = run (s .bytes) (s .dir) l calls in
-    let r : Right (s .bytes) (s .dir) z = always-right (s .bytes) (s .dir) count l (record { old = s .cur; state = st; opens = e; begins = refl }) calls in
-    let b : Whole (s .bytes) (s .dir) l (blockOf s m count) = block-reads s m count st cur e in
-    let k : Reads (s .bytes) (s .dir) l z = only-kept (s .bytes) (s .dir) calls l in
-    let g : Reads (s .bytes) (s .dir) z (b .last) = reads-on (s .bytes) (s .dir) _ _ l z (b .last) (k .reads) (b .before) (λ j q. b .stops j (b .answers ∙ q)) in
-    let n : z .kept .state .names + g .names ≡ b .last .kept .state .names = sym (so-many (s .bytes) (s .dir) _ z (b .last) (g .reads)) in
+    let z : Lent = run (s .rules) (s .bytes) (s .dir) l calls in
+    let r : Right (s .bytes) (s .dir) z = always-right (s .rules) (s .bytes) (s .dir) count l (record { old = s .cur; state = st; opens = e; begins = refl }) calls in
+    let b : Whole (s .rules) (s .bytes) (s .dir) l (blockOf s m count) = block-reads s m count st cur e in
+    let k : Reads (s .rules) (s .bytes) (s .dir) l z = only-kept (s .rules) (s .bytes) (s .dir) calls l in
+    let g : Reads (s .rules) (s .bytes) (s .dir) z (b .last) = reads-on (s .rules) (s .bytes) (s .dir) _ _ l z (b .last) (k .reads) (b .before) (λ j q. b .stops j (b .answers ∙ q)) in
+    let n : z .kept .state .names + g .names ≡ b .last .kept .state .names = sym (so-many (s .rules) (s .bytes) (s .dir) _ z (b .last) (g .reads)) in
     let u : left (blockOf s m count) ≡ b .last = b .stays in (
       omega (arith, ap (λ (x : Lent). x .kept .state .names) u),
-      name-later (s .bytes) (s .dir) (g .names) z (b .last) r (g .reads) i h ∙ ap (λ (x : Lent). nameAt x i) (sym u),
+      name-later (s .rules) (s .bytes) (s .dir) (g .names) z (b .last) r (g .reads) i h ∙ ap (λ (x : Lent). nameAt x i) (sym u),
     )
 
 -- a refusal of a read over tables that are right: 10 for what is left unread, or one that the rules give for the name being read
-refusal-right : (bytes dir : List ℕ) (l : Lent) → Right bytes dir l → (q : Refusal) → Why (source bytes dir (l .cur)) (l .kept) q → Sane l q
-refusal-right bytes dir l r q (unsound a) = absurd (never (sym a ∙ open-sound bytes dir (l .cur) (r .opened)))
-refusal-right bytes dir l r q (uncounted a b) = absurd (never (sym b ∙ counts-of (l .kept) (r .counts)))
-refusal-right bytes dir l r q (outside a b c) = absurd (never (sym c ∙ open-inside bytes dir (l .cur) (r .opened)))
-refusal-right bytes dir l r q (unread a b c) = left-over b
-refusal-right bytes dir l r q (unnamed k a b c) =
-    by-reason (source bytes dir (l .cur)) (l .kept) k c (by-rules k)
+refusal-right : (rules : Rules) (bytes dir : List ℕ) (l : Lent) → Right bytes dir l → (q : Refusal) → Why (source rules bytes dir (l .cur)) (l .kept) q → Sane l q
+refusal-right rules bytes dir l r q (unsound a) = absurd (never (sym a ∙ open-sound bytes dir (l .cur) (r .opened)))
+refusal-right rules bytes dir l r q (uncounted a b) = absurd (never (sym b ∙ counts-of (l .kept) (r .counts)))
+refusal-right rules bytes dir l r q (outside a b c) = absurd (never (sym c ∙ open-inside bytes dir (l .cur) (r .opened)))
+refusal-right rules bytes dir l r q (unread a b c) = left-over b
+refusal-right rules bytes dir l r q (unnamed k a b c) =
+    by-reason (source rules bytes dir (l .cur)) (l .kept) k c (by-rules k)
     (λ d h f e.
     let i : ℕ = l .kept .state .names - d in
     let n : NameRight (l .kept) i = r .names i (omega (arith, h .0, h .1)) in
@@ -170,42 +178,86 @@ refusal-right bytes dir l r q (unnamed k a b c) =
       each = λ j a b. r .rows j (omega (arith, n .rows .ends)) .fits;
     }))))
 
+-- the count that a fresh start notes
+fresh-count : (bytes dir : List ℕ) (count : ℕ) (l : Lent) → Fresh bytes dir count l → l .kept .state .count ≡ count
+fresh-count bytes dir count l f = ap (λ (x : State). x .count) (f .begins ∙ accepted (length bytes) dir count (f .old) (f .opens) .state)
+
+-- what is kept at any time is what the words say of the block
+pub always-told : (rules : Rules) (bytes dir : List ℕ) (count : ℕ) (l : Lent) → Fresh bytes dir count l → (calls : List Call) → ByWords rules bytes dir (telling rules bytes dir count) (run rules bytes dir l calls)
+always-told rules bytes dir count l f calls =
+    by-words rules bytes dir (telling rules bytes dir count) (run rules bytes dir l calls)
+    (keeps-reached rules bytes dir (telling rules bytes dir count) _ l (run rules bytes dir l calls) (only-kept rules bytes dir calls l .reads) (fresh-reached rules bytes dir count l f (fresh-sure bytes dir count l f)))
+
+-- two fresh starts on one block keep the same names, whatever each was lent and whatever was called
+pub same-names : (rules : Rules) (bytes dir : List ℕ) (count : ℕ) (l w : Lent) → Fresh bytes dir count l → Fresh bytes dir count w → (calls others : List Call) (i : ℕ)
+    → i < run rules bytes dir l calls .kept .state .names → i < run rules bytes dir w others .kept .state .names → SameName (run rules bytes dir l calls) (run rules bytes dir w others) i
+unfolding nameAt nameText
+same-names rules bytes dir count l w f g calls others i h k =
+    let a = always-told rules bytes dir count l f calls .each i h in
+    let b = always-told rules bytes dir count w g others .each i k in
+    record { name = _; one = a; other = b; bytes = a .text ∙ sym (b .text) }
+
+-- a read that is refused with another number than 9 is refused as the words say that the block ends
+ends-at : (k : ℕ) (x : Ending) (r n : ℕ) → endsWith k x ≡ answer.Refused (refusal.At r n) → (x ≡ stopped r) × (n ≡ k)
+unfolding endsWith
+ends-at k done r n e = let z : _≡_ {A = ℕ} 0 1 = cc in absurd (omega arith)
+ends-at k unread r n e = let z : _≡_ {A = ℕ} 0 1 = cc in absurd (omega arith)
+ends-at k (stopped q) r n e = let z : q ≡ r = cc in (ap stopped z, cc)
+
+pub refused-told : (rules : Rules) (bytes dir : List ℕ) (b : Telling) (z : Lent) → ByWords rules bytes dir b z → (r n : ℕ) → (r ≡ 9 → ⊥) → read rules bytes dir z .answer ≡ answer.Refused (refusal.At r n) → EndsAt b z r n
+unfolding answerAt
+refused-told rules bytes dir b z t r n h e =
+    let k : ℕ = z .kept .state .names in
+    ⊎-elim
+    (λ (a : read rules bytes dir z .answer ≡ answerAt b k).
+    by-test (ltb k (length (b .names)))
+    (λ y. let w : answer.Kept k ≡ answer.Refused (refusal.At r n) = sym (pick-true _ _ y) ∙ sym a ∙ e in let x : _≡_ {A = ℕ} 0 1 = cc in absurd (omega arith))
+    (λ y.
+    let last : length (b .names) ≤ k = ltb-false _ _ y in
+    let w = ends-at k (b .ending) r n (sym (pick-false _ _ y) ∙ sym a ∙ e) in
+    record { all = omega (arith, last, t .few); number = omega (arith, last, t .few, w .1); ending = w .0 }))
+    (λ (a : (k < length (b .names)) × (read rules bytes dir z .answer ≡ answer.Refused (refusal.At 9 k))).
+    let w : answer.Refused (refusal.At 9 k) ≡ answer.Refused (refusal.At r n) = sym (a .1) ∙ e in
+    let x : 9 ≡ r = cc in absurd (h (sym x)))
+    (t .answers)
+
 -- from a fresh start no read meets 1 or 13
-pub always-sane : (bytes dir : List ℕ) (count : ℕ) (l : Lent) → Fresh bytes dir count l → (calls : List Call) (q : Refusal)
-    → read bytes dir (run bytes dir l calls) .answer ≡ answer.Refused q → Sane (run bytes dir l calls) q
+pub always-sane : (rules : Rules) (bytes dir : List ℕ) (count : ℕ) (l : Lent) → Fresh bytes dir count l → (calls : List Call) (q : Refusal)
+    → read rules bytes dir (run rules bytes dir l calls) .answer ≡ answer.Refused q → Sane (run rules bytes dir l calls) q
 unfolding read
-always-sane bytes dir count l f calls q e =
-    refusal-right bytes dir (run bytes dir l calls) (always-right bytes dir count l f calls) q (read-why _ _ q e)
+always-sane rules bytes dir count l f calls q e =
+    refusal-right rules bytes dir (run rules bytes dir l calls) (always-right rules bytes dir count l f calls) q (read-why _ _ q e)
 
 -- demand 3: start fresh on one block and make any sequence of reads and claims, refused ones too
-pub demand-3 : (bytes dir : List ℕ) (count : ℕ) (l : Lent) → Fresh bytes dir count l → (calls : List Call) → Demand3 bytes dir l (run bytes dir l calls)
-demand-3 bytes dir count l f calls = record {
-  right = always-right bytes dir count l f calls;
-  claims = always-judged bytes dir count l f calls;
-  reads = only-kept bytes dir calls l;
-  refusals = always-sane bytes dir count l f calls;
+pub demand-3 : (rules : Rules) (bytes dir : List ℕ) (count : ℕ) (l : Lent) → Fresh bytes dir count l → (calls : List Call) → Demand3 rules bytes dir l (run rules bytes dir l calls)
+demand-3 rules bytes dir count l f calls = record {
+  right = always-right rules bytes dir count l f calls;
+  claims = always-judged rules bytes dir count l f calls;
+  told = subst (λ (n : ℕ). ByWords rules bytes dir (telling rules bytes dir n) (run rules bytes dir l calls)) (sym (fresh-count bytes dir count l f)) (always-told rules bytes dir count l f calls);
+  reads = only-kept rules bytes dir calls l;
+  refusals = always-sane rules bytes dir count l f calls;
 }
 
 -- calls after calls
-run-then : (bytes dir : List ℕ) (before calls : List Call) (l : Lent) → run bytes dir l (before ++ calls) ≡ run bytes dir (run bytes dir l before) calls
+run-then : (rules : Rules) (bytes dir : List ℕ) (before calls : List Call) (l : Lent) → run rules bytes dir l (before ++ calls) ≡ run rules bytes dir (run rules bytes dir l before) calls
 unfolding run
-run-then bytes dir [] calls l = refl
-run-then bytes dir (c ∷ cs) calls l = run-then bytes dir cs calls (after bytes dir l c)
+run-then rules bytes dir [] calls l = refl
+run-then rules bytes dir (c ∷ cs) calls l = run-then rules bytes dir cs calls (after rules bytes dir l c)
 
 -- demand 3 from a whole-block read on: once its opening has accepted the block, what it leaves is what reads from that fresh start leave,
 -- and so is what any sequence of reads and claims leaves that follows it
 pub block-demand-3 : (s : Source) (m : Kept) (count : ℕ) (st : State) (cur : List ℕ)
     → openOf (length (s .bytes)) (s .dir) count (s .cur) ≡ opening (opened.Fresh st) cur
     → (calls : List Call)
-    → Demand3 (s .bytes) (s .dir) (lent cur (keeping st (m .text) (m .names) (m .rows))) (run (s .bytes) (s .dir) (left (blockOf s m count)) calls)
+    → Demand3 (s .rules) (s .bytes) (s .dir) (lent cur (keeping st (m .text) (m .names) (m .rows))) (run (s .rules) (s .bytes) (s .dir) (left (blockOf s m count)) calls)
 block-demand-3 s m count st cur e calls =
     let l : Lent = lent cur (keeping st (m .text) (m .names) (m .rows)) in
-    let b : Whole (s .bytes) (s .dir) l (blockOf s m count) = block-reads s m count st cur e in
-    let same : run (s .bytes) (s .dir) l (replicate (b .names) reading) ≡ left (blockOf s m count) =
-    plain-reads (s .bytes) (s .dir) (b .names) l (b .last) (b .before) ∙ sym (b .stays) in
-    subst (Demand3 (s .bytes) (s .dir) l)
-    (run-then (s .bytes) (s .dir) (replicate (b .names) reading) calls l ∙ ap (λ (z : Lent). run (s .bytes) (s .dir) z calls) same)
-    (demand-3 (s .bytes) (s .dir) count l (record { old = s .cur; state = st; opens = e; begins = refl }) (replicate (b .names) reading ++ calls))
+    let b : Whole (s .rules) (s .bytes) (s .dir) l (blockOf s m count) = block-reads s m count st cur e in
+    let same : run (s .rules) (s .bytes) (s .dir) l (replicate (b .names) reading) ≡ left (blockOf s m count) =
+    plain-reads (s .rules) (s .bytes) (s .dir) (b .names) l (b .last) (b .before) ∙ sym (b .stays) in
+    subst (Demand3 (s .rules) (s .bytes) (s .dir) l)
+    (run-then (s .rules) (s .bytes) (s .dir) (replicate (b .names) reading) calls l ∙ ap (λ (z : Lent). run (s .rules) (s .bytes) (s .dir) z calls) same)
+    (demand-3 (s .rules) (s .bytes) (s .dir) count l (record { old = s .cur; state = st; opens = e; begins = refl }) (replicate (b .names) reading ++ calls))
 
 -- so what it leaves is right
 pub block-right : (s : Source) (m : Kept) (count : ℕ) (st : State) (cur : List ℕ)

@@ -53,12 +53,12 @@ the-last o (answer.Refused r) = refl
 
 module _ (s : Source) (m : Kept) (sounds : sound (length (s .bytes)) (s .dir) (s .cur) ≡ true) where
   -- a block of no names is opened and read once
-  one-read : blockOf s m 0 ≡ readOf (source (s .bytes) (s .dir) (starts (s .dir))) (no-names m)
+  one-read : blockOf s m 0 ≡ readOf (source (s .rules) (s .bytes) (s .dir) (starts (s .dir))) (no-names m)
   unfolding blockOf openedOf readsFrom
   one-read = rw (← opens-fresh (length (s .bytes)) (s .dir) 0 (s .cur) sounds (omega arith)) (the-last _ _)
 
-  ready : Ready (source (s .bytes) (s .dir) (starts (s .dir))) (no-names m)
-  ready = fresh-ready (s .bytes) (s .dir) 0 (s .cur) (m .text) (m .names) (m .rows) sounds (omega arith)
+  ready : Ready (source (s .rules) (s .bytes) (s .dir) (starts (s .dir))) (no-names m)
+  ready = fresh-ready (s .rules) (s .bytes) (s .dir) 0 (s .cur) (m .text) (m .names) (m .rows) sounds (omega arith)
 
   -- reading count 0 with empty spans is "done"
   pub empty-block : ((j : ℕ) → j < 1290 → startOf (s .dir) j ≡ endOf (s .dir) j) → blockOf s m 0 ≡ outcome answer.Done (starts (s .dir)) (no-names m)

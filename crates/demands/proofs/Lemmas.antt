@@ -1,6 +1,7 @@
 -- Laws of the model's parts that the theorems stand on.
 pub mod Streams
 pub mod Traces
+pub mod Stops
 pub mod Ways
 pub mod Moves
 pub mod Writes
@@ -9,4 +10,5 @@ pub mod Making
 pub mod Adding
 pub mod Later
 pub mod Keeping
+pub mod Told
 pub mod Blocks

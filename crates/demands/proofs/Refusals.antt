@@ -1,6 +1,6 @@
 -- Each refusal is given exactly where the words apply: what a call comes to has its cause (`open-case`, `write-case`, `read-case` of Lemmas/Ways),
 -- and the cause gives what it comes to (`case-opens`, `case-writes`, `case-reads`). The causes of refusals are in specs/Refusals;
--- for a token's 2, 3 and 5 to 8 the cause is that the walk of names/specs/Names over the steps of steps/specs/Steps meets them first.
+-- those inside a name, 2, 3 and 5 to 8, are in specs/Stops and are proved in both directions in Lemmas/Stops.
 use Prim.Native.Nat.{ℕ, zero, suc, _+_, _-_, _≤_, _<_}
 use mathlib.Core.Path.{_≡_, refl, sym, ap, _∙_, subst}
 use mathlib.Core.Bool.{true, false}
@@ -21,9 +21,10 @@ use Rattle.block.specs.Streams.{dupStream, diffStream}
 use Rattle.kept.specs.Tables.{Kept}
 use Rattle.kept.specs.Judgement.{earlierFits}
 use Rattle.kept.proofs.Laws.{earlier-fits-of}
-use Rattle.tokens.specs.Types.{dupNumber, diffNumber}
+use Rattle.tokens.specs.Types.{Rules}
+use Rattle.tokens.proofs.Laws.{dup-not-diff}
 use Rattle.sources.specs.Source.{Source, Earlier}
-use Rattle.names.specs.Names.{Draft}
+use Rattle.names.specs.Names.{Draft, refused}
 use Rattle.entries.specs.declared.Answer.the-variants as answer
 use Rattle.heads.specs.declared.Head.the-variants as head
 use Rattle.entries.specs.Outcomes.{Outcome, outcome, plain, atName}
@@ -40,8 +41,9 @@ use Rattle.inputs.specs.declared.Judged.the-variants.{Fine, Bad}
 use Rattle.inputs.specs.Inputs.{namesOf, ended, goodName, judgedFrom}
 use Rattle.nameputs.specs.NamePuts.{putsOf}
 use Rattle.writing.specs.Writes.{Writing, countable, laidOf, judgedOf, writeOf}
-use Rattle.demands.specs.Refusals.{OpenCase, opens-1, opens-12, opens, Countable, FirstBad, AllGood, WriteCase, writes-1, writes-12, writes-8, writes-9, writes, Ready, is-dup, is-diff, Heads, Back, Rule2, dup-back, diff-none, diff-back, HeadStop, no-type, no-head, no-distance, off-rule, Leans, on-none, on-earlier, Origin, copied, walked, Reason, by-head, by-memory, by-token, by-room, Why, unsound, uncounted, outside, unread, unnamed, ReadCase, refuses, ends, keeps, ByRule}
-use Rattle.demands.proofs.Lemmas.Traces.{name-refuses}
+use Rattle.demands.specs.Refusals.{OpenCase, opens-1, opens-12, opens, Countable, FirstBad, AllGood, WriteCase, writes-1, writes-12, writes-8, writes-9, writes, Ready, is-dup, is-diff, Heads, Back, Rule2, dup-back, diff-none, diff-back, HeadStop, no-type, no-head, no-distance, off-rule, Leans, on-none, on-earlier, Origin, copied, walked, Reason, by-head, by-memory, by-token, by-room, Why, unsound, uncounted, outside, unread, unnamed, ReadCase, refuses, ends, keeps, ByRule, dupIn, diffIn}
+use Rattle.demands.specs.Stops.{Reached, Stop}
+use Rattle.demands.proofs.Lemmas.Stops.{stops-name, stop-number}
 use Rattle.demands.proofs.Lemmas.Ways.{back-of, of-back, rule-diff, diff-rule, ready-reads, read-case}
 
 -- opening
@@ -102,28 +104,28 @@ counts-of : (input : List ℕ) → Countable input → countable input ≡ true
 unfolding countable
 counts-of input c = both-of (c .0) (le-leb _ _ (c .1))
 
-module _ (input dir bytes : List ℕ) where
-  judged-case : length dir ≡ 2580 → Countable input → (j : Judged) → NamesCase 0 (namesOf input) j → WriteCase input dir bytes (judgedOf j (namesOf input) dir bytes)
+module _ (rules : Rules) (input dir bytes : List ℕ) where
+  judged-case : length dir ≡ 2580 → Countable input → (j : Judged) → NamesCase 0 (namesOf input) j → WriteCase rules input dir bytes (judgedOf rules j (namesOf input) dir bytes)
   unfolding judgedOf laidOf
   judged-case a c j (all-fine h) =
-      pick-holds (WriteCase input dir bytes) (leb (totalOf (putsOf (namesOf input))) (length bytes)) _ _ (λ e. writes a c h (leb-true _ _ e)) (λ e. writes-9 a c h (leb-false _ _ e))
+      pick-holds (WriteCase rules input dir bytes) (leb (totalOf (putsOf rules (namesOf input))) (length bytes)) _ _ (λ e. writes a c h (leb-true _ _ e)) (λ e. writes-9 a c h (leb-false _ _ e))
   judged-case a c j (one-bad n i b e) = writes-8 i a c (subst (FirstBad (namesOf input)) (let z : n ≡ i = omega arith in z) b)
 
-  pub write-case : WriteCase input dir bytes (writeOf input dir bytes)
+  pub write-case : WriteCase rules input dir bytes (writeOf rules input dir bytes)
   unfolding writeOf
   write-case =
-      pick-holds (WriteCase input dir bytes) (eqb (length dir) 2580) _ _
-      (λ a. pick-holds (WriteCase input dir bytes) (countable input) _ _
+      pick-holds (WriteCase rules input dir bytes) (eqb (length dir) 2580) _ _
+      (λ a. pick-holds (WriteCase rules input dir bytes) (countable input) _ _
       (λ b. judged-case (eqb-true _ _ a) (counted input b) _ (names-case (namesOf input) 0))
       (λ b. writes-12 (eqb-true _ _ a) (λ c. never (sym b ∙ counts-of input c))))
       (λ a. writes-1 (eqb-false _ _ a))
 
-  judges : length dir ≡ 2580 → Countable input → (j : Judged) → NamesCase 0 (namesOf input) j → writeOf input dir bytes ≡ judgedOf j (namesOf input) dir bytes
+  judges : length dir ≡ 2580 → Countable input → (j : Judged) → NamesCase 0 (namesOf input) j → writeOf rules input dir bytes ≡ judgedOf rules j (namesOf input) dir bytes
   unfolding writeOf
   judges a c j h =
-      pick-true _ _ (eq-eqb _ _ a) ∙ pick-true _ _ (counts-of input c) ∙ ap (λ (x : Judged). judgedOf x (namesOf input) dir bytes) (case-names (namesOf input) 0 j h)
+      pick-true _ _ (eq-eqb _ _ a) ∙ pick-true _ _ (counts-of input c) ∙ ap (λ (x : Judged). judgedOf rules x (namesOf input) dir bytes) (case-names (namesOf input) 0 j h)
 
-  pub case-writes : (w : Writing) → WriteCase input dir bytes w → writeOf input dir bytes ≡ w
+  pub case-writes : (w : Writing) → WriteCase rules input dir bytes w → writeOf rules input dir bytes ≡ w
   unfolding writeOf judgedOf laidOf
   case-writes w (writes-1 a) = pick-false _ _ (ne-eqb _ _ a)
   case-writes w (writes-12 a n) = pick-true _ _ (eq-eqb _ _ a) ∙ pick-false _ _ (fails (λ t. n (counted input t)))
@@ -131,31 +133,38 @@ module _ (input dir bytes : List ℕ) where
   case-writes w (writes-9 a c h l) = judges a c Fine (all-fine h) ∙ pick-false _ _ (lt-leb _ _ l)
   case-writes w (writes a c h l) = judges a c Fine (all-fine h) ∙ pick-true _ _ (le-leb _ _ l)
 
+-- reading inside a name: no two causes with different numbers hold together, whatever their positions
+pub one-stop : (s : Source) (e : Earlier) (p a r q b t : ℕ) → Reached s e p a → Stop s e p a r → Reached s e q b → Stop s e q b t → r ≡ t
+one-stop s e p a r q b t h c i d =
+    let u : refused r ≡ refused t = sym (stops-name s e 0 [] p a r h c) ∙ stops-name s e 0 [] q b t i d in
+    let z : r ≡ t = cc in
+    z
+
 -- reading: position 0
 module _ (s : Source) (n : ℕ) where
-  dup-typed : (d : ℕ) → Heads s dupNumber dupStream d → headOf s n ≡ pick (dupFits d n) (head.Dup (record { 0 = d })) (head.Refused 4)
+  dup-typed : (d : ℕ) → Heads s (dupIn s) dupStream d → headOf s n ≡ pick (dupFits d n) (head.Dup (record { 0 = d })) (head.Refused 4)
   unfolding headOf typedHead dupHead
-  dup-typed d h = ap (typedHead s n) (h .type) ∙ pick-true _ _ (eq-eqb dupNumber dupNumber refl) ∙ ap (dupHead n) (h .distance)
+  dup-typed d h = ap (typedHead s n) (h .type) ∙ pick-true _ _ (eq-eqb (dupIn s) (dupIn s) refl) ∙ ap (dupHead n) (h .distance)
 
-  diff-typed : (d : ℕ) → Heads s diffNumber diffStream d → headOf s n ≡ pick (diffFits d n) (head.Diff (record { 0 = d })) (head.Refused 4)
+  diff-typed : (d : ℕ) → Heads s (diffIn s) diffStream d → headOf s n ≡ pick (diffFits d n) (head.Diff (record { 0 = d })) (head.Refused 4)
   unfolding headOf typedHead diffHead
-  diff-typed d h = ap (typedHead s n) (h .type) ∙ pick-false _ _ (ne-eqb diffNumber dupNumber (λ z. omega arith)) ∙ pick-true _ _ (eq-eqb diffNumber diffNumber refl) ∙ ap (diffHead n) (h .distance)
+  diff-typed d h = ap (typedHead s n) (h .type) ∙ pick-false _ _ (ne-eqb (diffIn s) (dupIn s) (dup-not-diff (s .rules .numbers))) ∙ pick-true _ _ (eq-eqb (diffIn s) (diffIn s) refl) ∙ ap (diffHead n) (h .distance)
 
   head-stops : (r : ℕ) → HeadStop s n r → headOf s n ≡ head.Refused r
   unfolding headOf typedHead dupHead diffHead
   head-stops r (no-type e) = ap (typedHead s n) e
-  head-stops r (no-head t c e a b) = ap (typedHead s n) e ∙ pick-false _ _ (ne-eqb t dupNumber a) ∙ pick-false _ _ (ne-eqb t diffNumber b)
-  head-stops r (no-distance t i c e is-dup f) = ap (typedHead s n) e ∙ pick-true _ _ (eq-eqb dupNumber dupNumber refl) ∙ ap (dupHead n) f
+  head-stops r (no-head t c e a b) = ap (typedHead s n) e ∙ pick-false _ _ (ne-eqb t (dupIn s) a) ∙ pick-false _ _ (ne-eqb t (diffIn s) b)
+  head-stops r (no-distance t i c e is-dup f) = ap (typedHead s n) e ∙ pick-true _ _ (eq-eqb (dupIn s) (dupIn s) refl) ∙ ap (dupHead n) f
   head-stops r (no-distance t i c e is-diff f) =
-      ap (typedHead s n) e ∙ pick-false _ _ (ne-eqb diffNumber dupNumber (λ z. omega arith)) ∙ pick-true _ _ (eq-eqb diffNumber diffNumber refl) ∙ ap (diffHead n) f
-  head-stops r (off-rule t i d h is-dup q) = dup-typed d h ∙ pick-false _ _ (fails (λ e. q (dup-back d (back-of n d e))))
-  head-stops r (off-rule t i d h is-diff q) = diff-typed d h ∙ pick-false _ _ (fails (λ e. q (diff-rule n d e)))
+      ap (typedHead s n) e ∙ pick-false _ _ (ne-eqb (diffIn s) (dupIn s) (dup-not-diff (s .rules .numbers))) ∙ pick-true _ _ (eq-eqb (diffIn s) (diffIn s) refl) ∙ ap (diffHead n) f
+  head-stops r (off-rule t i d h is-dup q) = dup-typed d h ∙ pick-false _ _ (fails (λ e. q (dup-back refl (back-of n d e))))
+  head-stops r (off-rule t i d h is-diff q) = diff-typed d h ∙ pick-false _ _ (fails (λ e. q (diff-rule s n d e)))
 
-  head-dup : (d : ℕ) → Heads s dupNumber dupStream d → Back n d → headOf s n ≡ head.Dup (record { 0 = d })
+  head-dup : (d : ℕ) → Heads s (dupIn s) dupStream d → Back n d → headOf s n ≡ head.Dup (record { 0 = d })
   head-dup d h b = dup-typed d h ∙ pick-true _ _ (of-back n d b)
 
-  head-diff : (d : ℕ) → Heads s diffNumber diffStream d → Rule2 n diffNumber d → headOf s n ≡ head.Diff (record { 0 = d })
-  head-diff d h b = diff-typed d h ∙ pick-true _ _ (rule-diff n d b)
+  head-diff : (d : ℕ) → Heads s (diffIn s) diffStream d → Rule2 s n (diffIn s) d → headOf s n ≡ head.Diff (record { 0 = d })
+  head-diff d h b = diff-typed d h ∙ pick-true _ _ (rule-diff s n d b)
 
 -- the name
 module _ (s : Source) (m : Kept) where
@@ -164,9 +173,9 @@ module _ (s : Source) (m : Kept) where
 
   leans-reads : (d : ℕ) (e : Earlier) → Leans s m d e → nameRead ≡ diffOf s m d e
   unfolding headedOf entryBack
-  leans-reads d e (on-none h) = ap (headedOf s m) (head-diff s _ 0 h diff-none) ∙ pick-true _ _ (eq-eqb 0 0 refl)
+  leans-reads d e (on-none h) = ap (headedOf s m) (head-diff s _ 0 h (diff-none refl refl)) ∙ pick-true _ _ (eq-eqb 0 0 refl)
   leans-reads d e (on-earlier x h b f) =
-      ap (headedOf s m) (head-diff s _ d h (diff-back d b)) ∙ pick-false _ _ (ne-eqb d 0 (λ z. omega (arith, b .0))) ∙ pick-true _ _ (earlier-fits-of m _ f)
+      ap (headedOf s m) (head-diff s _ d h (diff-back refl b)) ∙ pick-false _ _ (ne-eqb d 0 (λ z. omega (arith, b .0))) ∙ pick-true _ _ (earlier-fits-of m _ f)
 
   origin-reads : (x : Draft) (first rows d : ℕ) → Origin s m x first rows d → nameRead ≡ keepOf s m x first rows d
   unfolding headedOf entryBack dupOf diffOf namedOf
@@ -178,8 +187,8 @@ module _ (s : Source) (m : Kept) where
   reason-reads r (by-head x q) = ap (headedOf s m) (head-stops s _ r q)
   reason-reads r (by-memory t i d h is-dup b f) = ap (headedOf s m) (head-dup s _ d h b) ∙ pick-false _ _ f
   reason-reads r (by-memory t i d h is-diff b f) =
-      ap (headedOf s m) (head-diff s _ d h (diff-back d b)) ∙ pick-false _ _ (ne-eqb d 0 (λ z. omega (arith, b .0))) ∙ pick-false _ _ f
-  reason-reads r (by-token x d e l q) = leans-reads d e l ∙ ap (namedOf s m d) q
+      ap (headedOf s m) (head-diff s _ d h (diff-back refl b)) ∙ pick-false _ _ (ne-eqb d 0 (λ z. omega (arith, b .0))) ∙ pick-false _ _ f
+  reason-reads r (by-token x d p len e l h c) = leans-reads d e l ∙ ap (namedOf s m d) (stops-name s e _ _ p len r h c)
   reason-reads r (by-room x first rows d o f) = origin-reads x first rows d o ∙ pick-false _ _ f
 
   name-reads : Ready s m → (m .state .names ≡ m .state .count → ⊥) → readOf s m ≡ nameRead
@@ -240,5 +249,5 @@ pub by-reason : {P : Type 0} (s : Source) (m : Kept) (r : ℕ) → Reason s m r 
     → ((d : ℕ) → Back (m .state .names) d → earlierFits m (m .state .names - d) ≡ false → r ≡ 13 → P) → P
 by-reason s m r (by-head x q) f g = f (head-rule s _ r q)
 by-reason s m r (by-memory t i d h is b q) f g = g d b q refl
-by-reason s m r (by-token x d e l q) f g = let b = name-refuses _ _ _ _ r q in f (b .0, omega (arith, b .1 .0))
+by-reason s m r (by-token x d p len e l h c) f g = let b = stop-number s e p len r c in f (b .0, omega (arith, b .1 .0))
 by-reason s m r (by-room x first rows d o q) f g = f (omega arith, omega arith)

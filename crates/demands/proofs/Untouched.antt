@@ -24,6 +24,7 @@ use Rattle.demands.specs.Runs.{Lent, lent, read, left, none, next}
 use Rattle.demands.specs.Untouched.{Untouched, Whole}
 use Rattle.demands.specs.Refusals.{ReadCase, refuses, ends, keeps}
 use Rattle.demands.proofs.Lemmas.Ways.{read-case}
+use Rattle.tokens.specs.Types.{Rules}
 
 refused-way : (s : Source) (m : Kept) (r : Refusal) (o : Outcome) → ReadCase s m o → o .answer ≡ answer.Refused r → Untouched s m o
 unfolding kept
@@ -54,9 +55,9 @@ open-refused n dir count cur r =
     (λ a. pick-holds (λ (o : Opening). o .answer ≡ opened.Refused r → o .cursors ≡ cur) (ltb 65536 count) _ _ (λ b e. refl)
     (λ b e. let z : _≡_ {A = ℕ} 0 1 = cc in absurd (omega arith)))
 
-module _ (bytes dir : List ℕ) where
+module _ (rules : Rules) (bytes dir : List ℕ) where
   -- one read more before it
-  one-more : (l : Lent) (o w : Outcome) (i : ℕ) → read bytes dir l ≡ o → o .answer ≡ answer.Kept i → Whole bytes dir (left o) w → Whole bytes dir l w
+  one-more : (l : Lent) (o w : Outcome) (i : ℕ) → read rules bytes dir l ≡ o → o .answer ≡ answer.Kept i → Whole rules bytes dir (left o) w → Whole rules bytes dir l w
   one-more l o w i e k h = record {
     names = suc (h .names);
     last = h .last;
@@ -67,14 +68,14 @@ module _ (bytes dir : List ℕ) where
   }
 
   -- a read that keeps no name is the last
-  the-last : (l : Lent) (o : Outcome) → read bytes dir l ≡ o → left o ≡ l → ((i : ℕ) → o .answer ≡ answer.Kept i → ⊥) → Whole bytes dir l o
+  the-last : (l : Lent) (o : Outcome) → read rules bytes dir l ≡ o → left o ≡ l → ((i : ℕ) → o .answer ≡ answer.Kept i → ⊥) → Whole rules bytes dir l o
   the-last l o e k h = record { names = 0; last = l; before = none l; answers = sym (ap (λ (x : Outcome). x .answer) e); stops = h; stays = k }
 
   -- after one read, `rest` being the reads that follow
   turn : (f : ℕ) (rest : Outcome → Outcome)
-      → ((o : Outcome) → o .kept .state .names + f ≡ o .kept .state .count + 1 → o .kept .state .names ≤ o .kept .state .count → Whole bytes dir (left o) (rest o))
+      → ((o : Outcome) → o .kept .state .names + f ≡ o .kept .state .count + 1 → o .kept .state .names ≤ o .kept .state .count → Whole rules bytes dir (left o) (rest o))
       → (l : Lent) → l .kept .state .names + suc f ≡ l .kept .state .count + 1 → l .kept .state .names ≤ l .kept .state .count
-      → (o : Outcome) → read bytes dir l ≡ o → ReadCase (source bytes dir (l .cur)) (l .kept) o → Whole bytes dir l (goOn rest o (o .answer))
+      → (o : Outcome) → read rules bytes dir l ≡ o → ReadCase (source rules bytes dir (l .cur)) (l .kept) o → Whole rules bytes dir l (goOn rest o (o .answer))
   unfolding goOn left kept
   turn f rest ih l h k o e (refuses q y) = the-last l o e refl (λ i z. let y : _≡_ {A = ℕ} 0 1 = cc in omega arith)
   turn f rest ih l h k o e (ends a b c) = the-last l o e refl (λ i z. let y : _≡_ {A = ℕ} 0 1 = cc in omega arith)
@@ -82,10 +83,10 @@ module _ (bytes dir : List ℕ) where
       one-more l o (rest o) (l .kept .state .names) e refl (ih o (omega arith) (omega (arith, b)))
 
   all-reads : (f : ℕ) (o : Outcome) → o .kept .state .names + f ≡ o .kept .state .count + 1 → o .kept .state .names ≤ o .kept .state .count
-      → Whole bytes dir (left o) (readsFrom bytes dir f o)
+      → Whole rules bytes dir (left o) (readsFrom rules bytes dir f o)
   unfolding readsFrom read left
   all-reads zero o h k = absurd (omega arith)
-  all-reads (suc f) o h k = turn f (readsFrom bytes dir f) (all-reads f) (left o) h k (read bytes dir (left o)) refl (read-case _ _)
+  all-reads (suc f) o h k = turn f (readsFrom rules bytes dir f) (all-reads f) (left o) h k (read rules bytes dir (left o)) refl (read-case _ _)
 
 -- a whole-block read whose opening is refused leaves everything as it was
 pub block-refused : (s : Source) (m : Kept) (count : ℕ) (r : Refusal) → openOf (length (s .bytes)) (s .dir) count (s .cur) .answer ≡ opened.Refused r
@@ -96,10 +97,10 @@ block-refused s m count r e = rw e (refl, record { cursors = open-refused (lengt
 -- one that opens leaves what opening and the reads before the last did
 pub block-reads : (s : Source) (m : Kept) (count : ℕ) (st : State) (cur : List ℕ)
     → openOf (length (s .bytes)) (s .dir) count (s .cur) ≡ opening (opened.Fresh st) cur
-    → Whole (s .bytes) (s .dir) (lent cur (keeping st (m .text) (m .names) (m .rows))) (blockOf s m count)
+    → Whole (s .rules) (s .bytes) (s .dir) (lent cur (keeping st (m .text) (m .names) (m .rows))) (blockOf s m count)
 unfolding blockOf openedOf left
 block-reads s m count st cur e =
     let o : Accepted (length (s .bytes)) (s .dir) count (s .cur) st cur = accepted _ _ _ _ e in
     let k : st .names ≡ 0 = ap (λ (x : State). x .names) (o .state) in
     let c : st .count ≡ count = ap (λ (x : State). x .count) (o .state) in
-    rw e (all-reads (s .bytes) (s .dir) (count + 1) (outcome answer.Done cur (keeping st (m .text) (m .names) (m .rows))) (omega arith) (omega arith))
+    rw e (all-reads (s .rules) (s .bytes) (s .dir) (count + 1) (outcome answer.Done cur (keeping st (m .text) (m .names) (m .rows))) (omega arith) (omega arith))

@@ -13,24 +13,25 @@ use Rattle.nameputs.specs.NamePuts.{putsOf}
 use Rattle.laying.specs.Puts.{totalOf}
 use Rattle.writing.specs.Writes.{countable, laidOf, judgedOf, writeOf}
 use Rattle.demands.specs.Untouched.{Unwritten}
+use Rattle.tokens.specs.Types.{Rules}
 
-laid : (names : List (List ℕ)) (dir bytes : List ℕ) → Unwritten dir bytes (laidOf names dir bytes)
+laid : (rules : Rules) (names : List (List ℕ)) (dir bytes : List ℕ) → Unwritten dir bytes (laidOf rules names dir bytes)
 unfolding laidOf
-laid names dir bytes =
-    pick-holds (Unwritten dir bytes) (leb (totalOf (putsOf names)) (length bytes)) _ _
+laid rules names dir bytes =
+    pick-holds (Unwritten dir bytes) (leb (totalOf (putsOf rules names)) (length bytes)) _ _
     (λ a r e. let z : _≡_ {A = ℕ} 0 1 = cc in absurd (omega arith))
     (λ a r e. (refl, refl))
 
-judged : (j : Judged) (names : List (List ℕ)) (dir bytes : List ℕ) → Unwritten dir bytes (judgedOf j names dir bytes)
+judged : (rules : Rules) (j : Judged) (names : List (List ℕ)) (dir bytes : List ℕ) → Unwritten dir bytes (judgedOf rules j names dir bytes)
 unfolding judgedOf
-judged Fine names dir bytes = laid names dir bytes
-judged (Bad n) names dir bytes = λ r e. (refl, refl)
+judged rules Fine names dir bytes = laid rules names dir bytes
+judged rules (Bad n) names dir bytes = λ r e. (refl, refl)
 
-pub write-refused : (input dir bytes : List ℕ) → Unwritten dir bytes (writeOf input dir bytes)
+pub write-refused : (rules : Rules) (input dir bytes : List ℕ) → Unwritten dir bytes (writeOf rules input dir bytes)
 unfolding writeOf
-write-refused input dir bytes =
+write-refused rules input dir bytes =
     pick-holds (Unwritten dir bytes) (eqb (length dir) 2580) _ _
     (λ a. pick-holds (Unwritten dir bytes) (countable input) _ _
-    (λ b. judged (judgedFrom 0 (namesOf input)) (namesOf input) dir bytes)
+    (λ b. judged rules (judgedFrom 0 (namesOf input)) (namesOf input) dir bytes)
     (λ b r e. (refl, refl)))
     (λ a r e. (refl, refl))

@@ -13,7 +13,7 @@ use Rattle.block.specs.Streams.{typeStream, diffStream}
 use Rattle.kept.specs.Tables.{Kept, entryAt}
 use Rattle.tokens.specs.declared.TokenType.{TokenType}
 use Rattle.tokens.specs.declared.TokenType.the-variants as type
-use Rattle.tokens.specs.Types.{diffNumber, typeOf}
+use Rattle.tokens.specs.Types.{typeOf}
 use Rattle.sources.specs.Source.{Source, earlier, byteIn}
 use Rattle.values.specs.declared.Step.the-variants as step
 use Rattle.steps.specs.Steps.{stepAt}
@@ -25,7 +25,7 @@ use Rattle.naming.specs.Naming.{diffOf}
 use Rattle.reads.specs.Reads.{readOf}
 use Rattle.references.specs.declared.Reference.the-variants.{Dup, Diff}
 use Rattle.references.specs.References.{referenceOf}
-use Rattle.demands.specs.Refusals.{Ready, Heads}
+use Rattle.demands.specs.Refusals.{Ready, Heads, diffIn}
 
 -- rule 2 for DIFF as document 01 has it: 0 for name 0, and what DUP needs for every later name
 abbrev pub diffFitted : ℕ → ℕ → Bool
@@ -54,16 +54,16 @@ pub record ReadsAfresh (s : Source) (m : Kept) : Type 0 where
   pub alike : (text rows : List ℕ)
       → nameOf s (none m) (m .state .text) (headPast (s .cur) diffStream) ≡ nameOf s (earlier text rows 0 0) (m .state .text) (headPast (s .cur) diffStream)
   -- a step at MATCH, DDELTA or DDELTA0 is refused with 5, whether or not a delta's byte is there; at position 128 it is 7 as in every name
-  pub fives : (p b : ℕ) (c : Cursor) → 1 ≤ p → p < 128 → byteIn s p typeStream ≡ byte.Value b c → Leaning (typeOf b) → stepAt s (none m) p ≡ step.Refused 5
+  pub fives : (p b : ℕ) (c : Cursor) → 1 ≤ p → p < 128 → byteIn s p typeStream ≡ byte.Value b c → Leaning (typeOf (s .rules .numbers) b) → stepAt s (none m) p ≡ step.Refused 5
   -- 4 isn't given, nor 13 for a name that is kept
   pub never-4 : readOf s m .answer ≡ answer.Refused (refusal.At 4 (m .state .names)) → ⊥
   pub never-13 : readOf s m .answer ≡ answer.Refused (refusal.At 13 (m .state .names)) → ⊥
   -- kept, it has none of these types among its tokens, and distance 0
   pub plain : (i : ℕ) → readOf s m .answer ≡ answer.Kept i → (p b : ℕ) (c : Cursor) → 1 ≤ p → p ≤ entryAt (readOf s m .kept .names) i .rows
-      → byteIn s p typeStream ≡ byte.Value b c → Leaning (typeOf b) → ⊥
+      → byteIn s p typeStream ≡ byte.Value b c → Leaning (typeOf (s .rules .numbers) b) → ⊥
   pub distance : (i : ℕ) → readOf s m .answer ≡ answer.Kept i → entryAt (readOf s m .kept .names) i .distance ≡ 0
 
 abbrev pub StartsAfresh : Type 0
 StartsAfresh =
     (s : Source) (m : Kept) → Ready s m → (m .state .names ≡ m .state .count → ⊥)
-    → Heads s diffNumber diffStream 0 → ReadsAfresh s m
+    → Heads s (diffIn s) diffStream 0 → ReadsAfresh s m

@@ -1,4 +1,4 @@
--- How the bench cases are said: small blocks from their streams, and what the definitions make of a token or of a block.
+-- How the bench cases are said: small blocks from their streams, opened and read, and names written into streams.
 use Prim.Native.Nat.{ℕ, _+_, _*_}
 use mathlib.Core.Path.{_≡_}
 use mathlib.Core.Bool.{Bool, true}
@@ -6,18 +6,21 @@ use mathlib.Core.List.{List, [], _∷_, _++_}
 use lib.Dec.{leb}
 use lib.ListN.{length, set, take, replicate}
 use Rattle.base.specs.Choice.{both}
-use Rattle.spans.specs.declared.NextByte.the-variants as byte
-use Rattle.spans.specs.declared.NextFour.the-variants as four
-use Rattle.block.specs.Block.{spanOf, starts, state}
-use Rattle.tokens.specs.Tokens.{bytesOf}
+use Rattle.base.specs.Memory.{part}
+use Rattle.block.specs.declared.State.{State}
+use Rattle.block.specs.declared.Opened.{Opened}
+use Rattle.block.specs.declared.Opened.the-variants as opened
+use Rattle.block.specs.Streams.{typeStream}
+use Rattle.block.specs.Block.{spanOf, startOf, endOf, Opening, openOf}
+use Rattle.tokens.specs.declared.TokenType.{TokenType}
+use Rattle.tokens.specs.Types.{typeNumber, draftNumbers, Rules, rulesOf, draftPlain}
 use Rattle.kept.specs.Tables.{Kept, keeping}
-use Rattle.values.specs.declared.Step.{Step}
-use Rattle.values.specs.declared.Step.the-variants as step
-use Rattle.values.specs.Values.{paddedOf, digits0Step}
-use Rattle.sums.specs.Sums.{deltaStep, delta0Step}
 use Rattle.entries.specs.declared.Answer.{Answer}
+use Rattle.entries.specs.declared.Answer.the-variants as answer
 use Rattle.entries.specs.Outcomes.{Outcome}
-use Rattle.demands.specs.Runs.{Lent, lent, read, run, reading}
+use Rattle.writing.specs.declared.WriteAnswer.{WriteAnswer}
+use Rattle.writing.specs.Writes.{Writing, writeOf}
+use Rattle.demands.specs.Runs.{lent, read, run, reading}
 
 -- a case: what the definitions give, and what the paper says
 pub record Case : Type 1 where
@@ -30,26 +33,15 @@ abbrev pub Hold : List Case → Type 0
 Hold [] = Unit
 Hold (c ∷ cs) = (c .given ≡ c .said) × Hold cs
 
--- a token prints bytes or is refused
-pub data Shown : Type 0 where
-  prints : List ℕ → Shown
-  refuses : ℕ → Shown
+-- all blocks here are the draft's
+abbrev pub draftRules : Rules
+draftRules = rulesOf draftPlain
 
-unfoldable pub shown : Step → Shown
-shown (step.Got t c) = prints (bytesOf [] [] t)
-shown step.End = prints []
-shown (step.Refused r) = refuses r
+abbrev pub dupNumber : ℕ
+dupNumber = draftNumbers .dup
 
--- DIGITS0 with a number and a width
-abbrev pub digits0 : ℕ → ℕ → Shown
-digits0 n w = shown (digits0Step (paddedOf (four.Value n (record { 0 = 4 })) (byte.Value w (record { 0 = 1 }))))
-
--- DDELTA on an earlier DIGITS row, and DDELTA0 on an earlier DIGITS0 row of a width
-abbrev pub delta : ℕ → ℕ → Shown
-delta n d = shown (deltaStep n (byte.Value d (record { 0 = 1 })))
-
-abbrev pub delta0 : ℕ → ℕ → ℕ → Shown
-delta0 n w d = shown (delta0Step n w (byte.Value d (record { 0 = 1 })))
+abbrev pub diffNumber : ℕ
+diffNumber = draftNumbers .diff
 
 -- the bytes of one span
 pub record Stream : Type 0 where
@@ -59,6 +51,14 @@ pub record Stream : Type 0 where
 
 abbrev pub stream : ℕ → ℕ → List ℕ → Stream
 stream p i b = record { position = p; stream = i; bytes = b }
+
+-- the types of a position, which are those of tokens
+unfoldable pub typeBytes : List TokenType → List ℕ
+typeBytes [] = []
+typeBytes (t ∷ ts) = typeNumber draftNumbers t ∷ typeBytes ts
+
+abbrev pub types : ℕ → List TokenType → Stream
+types p ts = stream p typeStream (typeBytes ts)
 
 -- spans laid one after another; the others are empty
 unfoldable pub bytesIn : List Stream → List ℕ
@@ -81,16 +81,9 @@ pub record Buffers : Type 0 where
   pub names : ℕ
   pub rows : ℕ
 
-abbrev pub small : Buffers
-small = record { text = 10; names = 20; rows = 10 }
-
--- nothing kept yet
-abbrev pub empty : Buffers → ℕ → Kept
-empty b count = keeping (state count 0 0 0) (replicate (b .text) 0) (replicate (b .names) 0) (replicate (b .rows) 0)
-
--- what opening such a block leaves
-unfoldable pub openOver : Buffers → ℕ → List Stream → Lent
-openOver b count xs = lent (starts (dirFrom 0 xs)) (empty b count)
+-- the buffers with nothing kept in them yet
+abbrev pub empty : Buffers → State → Kept
+empty b s = keeping s (replicate (b .text) 0) (replicate (b .names) 0) (replicate (b .rows) 0)
 
 -- what reading came to: the answer, and the text that is kept
 pub record Told : Type 0 where
@@ -100,9 +93,35 @@ pub record Told : Type 0 where
 unfoldable pub told : Outcome → Told
 told o = record { answer = o .answer; text = take (o .kept .state .text) (o .kept .text) }
 
--- the read after n reads, in a block of n + 1 names
-unfoldable pub readIn : Buffers → ℕ → List Stream → Told
-readIn b n xs = told (read (bytesIn xs) (dirFrom 0 xs) (run (bytesIn xs) (dirFrom 0 xs) (openOver b (n + 1) xs) (replicate n reading)))
+-- n reads of a block that is opened, and the read after them; nothing is read where opening is refused
+unfoldable pub readFrom : Buffers → ℕ → List Stream → List ℕ → Opened → Told
+readFrom b n xs cur (opened.Fresh s) = told (read draftRules (bytesIn xs) (dirFrom 0 xs) (run draftRules (bytesIn xs) (dirFrom 0 xs) (lent cur (empty b s)) (replicate n reading)))
+readFrom b n xs cur (opened.Refused r) = record { answer = answer.Refused r; text = [] }
 
-abbrev pub readOver : ℕ → List Stream → Told
-readOver n xs = readIn small n xs
+-- opening a block of so many names, over cursors that hold nothing yet
+unfoldable pub openIn : ℕ → List Stream → Opening
+openIn count xs = openOf (length (bytesIn xs)) (dirFrom 0 xs) count (replicate 1290 0)
+
+-- a block of n + 1 names, opened and read n + 1 times: what the last read came to
+unfoldable pub readIn : Buffers → ℕ → List Stream → Told
+readIn b n xs = readFrom b n xs (openIn (n + 1) xs .cursors) (openIn (n + 1) xs .answer)
+
+-- what writing came to: the answer, what lies in some spans by the directory, and all the bytes
+pub record WrittenIn : Type 0 where
+  pub answer : WriteAnswer
+  pub streams : List Stream
+  pub bytes : List ℕ
+
+-- what lies in the spans of these streams
+unfoldable pub streamsIn : List ℕ → List ℕ → List Stream → List Stream
+streamsIn bytes dir [] = []
+streamsIn bytes dir (x ∷ xs) =
+    stream (x .position) (x .stream) (part bytes (startOf dir (spanOf (x .position) (x .stream))) (endOf dir (spanOf (x .position) (x .stream))))
+    ∷ streamsIn bytes dir xs
+
+unfoldable pub wroteIn : List Stream → Writing → WrittenIn
+wroteIn xs w = record { answer = w .answer; streams = streamsIn (w .bytes) (w .directory) xs; bytes = w .bytes }
+
+-- names written over a directory and 30 bytes that hold something else
+unfoldable pub writeIn : List ℕ → List Stream → WrittenIn
+writeIn input xs = wroteIn xs (writeOf draftRules input (replicate 2580 7) (replicate 30 9))

@@ -3,9 +3,11 @@ pub mod Cases
 pub mod Bench
 pub mod Takes
 pub mod Printing
+pub mod Stops
 pub mod Refusals
 pub mod Untouched
 pub mod Done
+pub mod ByWords
 pub mod Right
 pub mod Adds
 pub mod Afresh

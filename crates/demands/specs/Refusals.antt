@@ -18,9 +18,9 @@ use Rattle.block.specs.Streams.{typeStream, dupStream, diffStream}
 use Rattle.kept.specs.Tables.{Kept}
 use Rattle.kept.specs.Judgement.{counts, earlierFits}
 use Rattle.kept.specs.Inside.{Counted, EntryInside}
-use Rattle.tokens.specs.Types.{dupNumber, diffNumber}
+use Rattle.tokens.specs.Types.{Rules}
 use Rattle.sources.specs.Source.{Source, Earlier, byteIn, fourIn}
-use Rattle.names.specs.Names.{Draft, draft, named, refused, nameOf}
+use Rattle.names.specs.Names.{Draft, draft, named, nameOf}
 use Rattle.entries.specs.declared.Answer.the-variants as answer
 use Rattle.entries.specs.Outcomes.{Outcome, outcome}
 use Rattle.entries.specs.Entries.{roomFor, kept}
@@ -31,6 +31,7 @@ use Rattle.writing.specs.declared.WriteAnswer.the-variants as written
 use Rattle.inputs.specs.Inputs.{namesOf, ended, goodName}
 use Rattle.nameputs.specs.NamePuts.{putsOf}
 use Rattle.writing.specs.Writes.{Writing, writing}
+use Rattle.demands.specs.Stops.{Reached, Stop}
 
 -- opening: 1, 12
 pub data OpenCase (len : ℕ) (dir : List ℕ) (count : ℕ) (cur : List ℕ) : Opening → Type 0 where
@@ -53,25 +54,32 @@ abbrev pub AllGood : List (List ℕ) → Type 0
 AllGood names = (i : ℕ) → i < length names → goodName (getD names i []) ≡ true
 
 -- writing: wrong directory length 1, then 12, the first bad name's 8, then 9
-pub data WriteCase (input dir bytes : List ℕ) : Writing → Type 0 where
-  writes-1 : (length dir ≡ 2580 → ⊥) → WriteCase input dir bytes (writing (written.Refused (refusal.Plain 1)) dir bytes)
-  writes-12 : length dir ≡ 2580 → (Countable input → ⊥) → WriteCase input dir bytes (writing (written.Refused (refusal.Plain 12)) dir bytes)
-  writes-8 : (n : ℕ) → length dir ≡ 2580 → Countable input → FirstBad (namesOf input) n → WriteCase input dir bytes (writing (written.Refused (refusal.At 8 n)) dir bytes)
-  writes-9 : length dir ≡ 2580 → Countable input → AllGood (namesOf input) → length bytes < totalOf (putsOf (namesOf input))
-      → WriteCase input dir bytes (writing (written.Refused (refusal.Plain 9)) dir bytes)
-  writes : length dir ≡ 2580 → Countable input → AllGood (namesOf input) → totalOf (putsOf (namesOf input)) ≤ length bytes
-      → WriteCase input dir bytes
-      (writing (written.Written (length (namesOf input)) (totalOf (putsOf (namesOf input)))) (directoryOf (putsOf (namesOf input))) (bytesOf (putsOf (namesOf input)) bytes))
+pub data WriteCase (rules : Rules) (input dir bytes : List ℕ) : Writing → Type 0 where
+  writes-1 : (length dir ≡ 2580 → ⊥) → WriteCase rules input dir bytes (writing (written.Refused (refusal.Plain 1)) dir bytes)
+  writes-12 : length dir ≡ 2580 → (Countable input → ⊥) → WriteCase rules input dir bytes (writing (written.Refused (refusal.Plain 12)) dir bytes)
+  writes-8 : (n : ℕ) → length dir ≡ 2580 → Countable input → FirstBad (namesOf input) n → WriteCase rules input dir bytes (writing (written.Refused (refusal.At 8 n)) dir bytes)
+  writes-9 : length dir ≡ 2580 → Countable input → AllGood (namesOf input) → length bytes < totalOf (putsOf rules (namesOf input))
+      → WriteCase rules input dir bytes (writing (written.Refused (refusal.Plain 9)) dir bytes)
+  writes : length dir ≡ 2580 → Countable input → AllGood (namesOf input) → totalOf (putsOf rules (namesOf input)) ≤ length bytes
+      → WriteCase rules input dir bytes
+      (writing (written.Written (length (namesOf input)) (totalOf (putsOf rules (namesOf input)))) (directoryOf (putsOf rules (namesOf input))) (bytesOf (putsOf rules (namesOf input)) bytes))
 
 -- spans, counts and cursors are sound
 pub record Ready (s : Source) (m : Kept) : Type 0 where
   pub opened : Open (s .bytes) (s .dir) (s .cur)
   pub counts : Counted m
 
+-- DUP's number in a block, and DIFF's
+abbrev pub dupIn : Source → ℕ
+dupIn s = s .rules .numbers .dup
+
+abbrev pub diffIn : Source → ℕ
+diffIn s = s .rules .numbers .diff
+
 -- DUP and DIFF, and the streams of their distances
-pub data IsHead : ℕ → ℕ → Type 0 where
-  is-dup : IsHead dupNumber dupStream
-  is-diff : IsHead diffNumber diffStream
+pub data IsHead (s : Source) : ℕ → ℕ → Type 0 where
+  is-dup : IsHead s (dupIn s) dupStream
+  is-diff : IsHead s (diffIn s) diffStream
 
 -- position 0 gives this type, and its stream this distance
 pub record Heads (s : Source) (t i d : ℕ) : Type 0 where
@@ -85,35 +93,35 @@ abbrev pub Back : ℕ → ℕ → Type 0
 Back n d = (1 ≤ d) × (d ≤ n)
 
 -- rule 2: which distances name n may have with which type; DIFF 0 of every name by C-11
-pub data Rule2 (n : ℕ) : ℕ → ℕ → Type 0 where
-  dup-back : (d : ℕ) → Back n d → Rule2 n dupNumber d
-  diff-none : Rule2 n diffNumber 0
-  diff-back : (d : ℕ) → Back n d → Rule2 n diffNumber d
+pub data Rule2 (s : Source) (n t d : ℕ) : Type 0 where
+  dup-back : t ≡ dupIn s → Back n d → Rule2 s n t d
+  diff-none : t ≡ diffIn s → d ≡ 0 → Rule2 s n t d
+  diff-back : t ≡ diffIn s → Back n d → Rule2 s n t d
 
 -- what position 0 is refused for: no type, another type, no distance, or one outside rule 2
 pub data HeadStop (s : Source) (n : ℕ) : ℕ → Type 0 where
   no-type : byteIn s 0 typeStream ≡ byte.Short → HeadStop s n 2
-  no-head : (t : ℕ) (c : Cursor) → byteIn s 0 typeStream ≡ byte.Value t c → (t ≡ dupNumber → ⊥) → (t ≡ diffNumber → ⊥) → HeadStop s n 3
-  no-distance : (t i : ℕ) (c : Cursor) → byteIn s 0 typeStream ≡ byte.Value t c → IsHead t i → fourIn s 0 i ≡ four.Short → HeadStop s n 2
-  off-rule : (t i d : ℕ) → Heads s t i d → IsHead t i → (Rule2 n t d → ⊥) → HeadStop s n 4
+  no-head : (t : ℕ) (c : Cursor) → byteIn s 0 typeStream ≡ byte.Value t c → (t ≡ dupIn s → ⊥) → (t ≡ diffIn s → ⊥) → HeadStop s n 3
+  no-distance : (t i : ℕ) (c : Cursor) → byteIn s 0 typeStream ≡ byte.Value t c → IsHead s t i → fourIn s 0 i ≡ four.Short → HeadStop s n 2
+  off-rule : (t i d : ℕ) → Heads s t i d → IsHead s t i → (Rule2 s n t d → ⊥) → HeadStop s n 4
 
 -- the rows that a DIFF goes by: none where its distance is 0 (C-11), else those of the name so far back, whose entry and rows all point inside
 pub data Leans (s : Source) (m : Kept) : ℕ → Earlier → Type 0 where
-  on-none : Heads s diffNumber diffStream 0 → Leans s m 0 (none m)
-  on-earlier : (d : ℕ) → Heads s diffNumber diffStream d → Back (m .state .names) d → EntryInside (m .state) (m .rows) (entryBack m d) → Leans s m d (rowsOf m (entryBack m d))
+  on-none : Heads s (diffIn s) diffStream 0 → Leans s m 0 (none m)
+  on-earlier : (d : ℕ) → Heads s (diffIn s) diffStream d → Back (m .state .names) d → EntryInside (m .state) (m .rows) (entryBack m d) → Leans s m d (rowsOf m (entryBack m d))
 
 -- how a name comes about, by rule 3 or 4: its text, rows and cursors, its first row, number of rows and distance
 pub data Origin (s : Source) (m : Kept) : Draft → ℕ → ℕ → ℕ → Type 0 where
-  copied : (d : ℕ) → Heads s dupNumber dupStream d → Back (m .state .names) d → EntryInside (m .state) (m .rows) (entryBack m d)
+  copied : (d : ℕ) → Heads s (dupIn s) dupStream d → Back (m .state .names) d → EntryInside (m .state) (m .rows) (entryBack m d)
       → Origin s m (draft (part (m .text) (entryBack m d .start) (entryBack m d .start + entryBack m d .length)) [] 0 (headPast (s .cur) dupStream)) (entryBack m d .first) (entryBack m d .rows) d
   walked : (x : Draft) (d : ℕ) (e : Earlier) → Leans s m d e → nameOf s e (m .state .text) (headPast (s .cur) diffStream) ≡ named x → Origin s m x (m .state .rows) (x .count) d
 
 -- why the name being read is refused: its head; 13, after 4, for the earlier name's entry or rows, for DUP too;
--- what the walk over its tokens meets first (2, 3, 5 to 8); and last, the name itself being fine, 9
+-- where its tokens stop and why (2, 3, 5 to 8, specs/Stops); and last, the name itself being fine, 9
 pub data Reason (s : Source) (m : Kept) : ℕ → Type 0 where
   by-head : (r : ℕ) → HeadStop s (m .state .names) r → Reason s m r
-  by-memory : (t i d : ℕ) → Heads s t i d → IsHead t i → Back (m .state .names) d → earlierFits m (m .state .names - d) ≡ false → Reason s m 13
-  by-token : (r d : ℕ) (e : Earlier) → Leans s m d e → nameOf s e (m .state .text) (headPast (s .cur) diffStream) ≡ refused r → Reason s m r
+  by-memory : (t i d : ℕ) → Heads s t i d → IsHead s t i → Back (m .state .names) d → earlierFits m (m .state .names - d) ≡ false → Reason s m 13
+  by-token : (r d p len : ℕ) (e : Earlier) → Leans s m d e → Reached s e p len → Stop s e p len r → Reason s m r
   by-room : (x : Draft) (first rows d : ℕ) → Origin s m x first rows d → roomFor m x ≡ false → Reason s m 9
 
 -- why a read is refused: 1; 13 for the counts and cursors; 10; then the name

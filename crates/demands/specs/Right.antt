@@ -13,8 +13,11 @@ use Rattle.entries.specs.declared.Answer.the-variants as answer
 use Rattle.claims.specs.declared.Verdict.the-variants.{Confirmed, Denied, Refused}
 use Rattle.claims.specs.Claims.{nameText}
 use Rattle.demands.specs.Printing.{rowText, rowPrints, rowsPrint}
+use Rattle.demands.specs.ByWords.{ByWords}
 use Rattle.demands.specs.Refusals.{ByRule}
 use Rattle.demands.specs.Runs.{Lent, Reads, read, claimed, nameAt}
+use Rattle.tokens.specs.Types.{Rules}
+use Rattle.words.specs.Words.{telling}
 
 -- a row: its kind and values are in order, its text is inside the kept text and is what the row prints
 pub record RowRight (used : ℕ) (text rows : List ℕ) (i : ℕ) : Type 0 where
@@ -67,12 +70,14 @@ pub data Sane (l : Lent) : Refusal → Type 0 where
   by-rules : (r : ℕ) → ByRule r → Sane l (refusal.At r (l .kept .state .names))
 
 -- all of demand 3, for a memory z that came from a fresh start l
-pub record Demand3 (bytes dir : List ℕ) (l z : Lent) : Type 0 where
+pub record Demand3 (rules : Rules) (bytes dir : List ℕ) (l z : Lent) : Type 0 where
   -- every kept name's tokens, printed end to end, are that name; each reference, a distance of 1 or more (C-11), points to a lower number
   pub right : Right bytes dir z
   -- every claim is answered by the name's bytes, or refused as not yet read
   pub claims : (number : ℕ) (claim : List ℕ) → Judged z number claim
+  -- the names kept are the first of those that the words say of the block, each with its text, its distance and its rows; a read answers as the words do, or 9
+  pub told : ByWords rules bytes dir (telling rules bytes dir (l .kept .state .count)) z
   -- what is kept is what as many reads in a row keep, whatever was claimed or refused in between
-  pub reads : Reads bytes dir l z
+  pub reads : Reads rules bytes dir l z
   -- no read is refused for what is kept
-  pub refusals : (r : Refusal) → read bytes dir z .answer ≡ answer.Refused r → Sane z r
+  pub refusals : (r : Refusal) → read rules bytes dir z .answer ≡ answer.Refused r → Sane z r

@@ -13,6 +13,7 @@ use Rattle.entries.specs.Outcomes.{Outcome}
 use Rattle.reads.specs.Reads.{readOf}
 use Rattle.claims.specs.declared.Verdict.{Verdict}
 use Rattle.claims.specs.Claims.{nameText, claimOf}
+use Rattle.tokens.specs.Types.{Rules}
 
 -- the memory that calls hand on: the cursors, and the state with the text buffer and both tables
 pub record Lent : Type 0 where
@@ -23,22 +24,22 @@ abbrev pub lent : List ℕ → Kept → Lent
 lent c m = record { cur = c; kept = m }
 
 -- a read over what is lent
-unfoldable pub read : List ℕ → List ℕ → Lent → Outcome
-read bytes dir l = readOf (source bytes dir (l .cur)) (l .kept)
+unfoldable pub read : Rules → List ℕ → List ℕ → Lent → Outcome
+read rules bytes dir l = readOf (source rules bytes dir (l .cur)) (l .kept)
 
 -- the memory that it leaves
 unfoldable pub left : Outcome → Lent
 left o = lent (o .cur) (o .kept)
 
 -- so many reads in a row, each of which keeps a name, lead from one memory to another
-pub data Keeps (bytes dir : List ℕ) : ℕ → Lent → Lent → Type 0 where
-  none : (l : Lent) → Keeps bytes dir 0 l l
-  next : (n i : ℕ) (l z : Lent) → read bytes dir l .answer ≡ answer.Kept i → Keeps bytes dir n (left (read bytes dir l)) z → Keeps bytes dir (suc n) l z
+pub data Keeps (rules : Rules) (bytes dir : List ℕ) : ℕ → Lent → Lent → Type 0 where
+  none : (l : Lent) → Keeps rules bytes dir 0 l l
+  next : (n i : ℕ) (l z : Lent) → read rules bytes dir l .answer ≡ answer.Kept i → Keeps rules bytes dir n (left (read rules bytes dir l)) z → Keeps rules bytes dir (suc n) l z
 
 -- some number of reads, each of which keeps a name
-pub record Reads (bytes dir : List ℕ) (l z : Lent) : Type 0 where
+pub record Reads (rules : Rules) (bytes dir : List ℕ) (l z : Lent) : Type 0 where
   pub names : ℕ
-  pub reads : Keeps bytes dir names l z
+  pub reads : Keeps rules bytes dir names l z
 
 -- a fresh start: opening accepts the block, whatever the cursors and the buffers held
 pub record Fresh (bytes dir : List ℕ) (count : ℕ) (l : Lent) : Type 0 where
@@ -53,14 +54,14 @@ pub data Call : Type 0 where
   claiming : ℕ → List ℕ → Call
 
 -- the memory after a call, refused or not
-unfoldable pub after : List ℕ → List ℕ → Lent → Call → Lent
-after bytes dir l reading = left (read bytes dir l)
-after bytes dir l (claiming number claim) = l
+unfoldable pub after : Rules → List ℕ → List ℕ → Lent → Call → Lent
+after rules bytes dir l reading = left (read rules bytes dir l)
+after rules bytes dir l (claiming number claim) = l
 
 -- the memory after any calls, each handed what the one before left
-unfoldable pub run : List ℕ → List ℕ → Lent → List Call → Lent
-run bytes dir l [] = l
-run bytes dir l (c ∷ cs) = run bytes dir (after bytes dir l c) cs
+unfoldable pub run : Rules → List ℕ → List ℕ → Lent → List Call → Lent
+run rules bytes dir l [] = l
+run rules bytes dir l (c ∷ cs) = run rules bytes dir (after rules bytes dir l c) cs
 
 -- what a claim answers over what is lent
 unfoldable pub claimed : Lent → ℕ → List ℕ → Verdict

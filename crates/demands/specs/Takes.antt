@@ -7,8 +7,8 @@ use Rattle.block.specs.Block.{spanOf, endOf, cursorOf}
 use Rattle.block.specs.Streams.{typeStream, stringStream, charStream, digits0Stream, dzlenStream, digitsStream, ddeltaStream, ddelta0Stream}
 use Rattle.tokens.specs.declared.TokenType.{TokenType}
 use Rattle.tokens.specs.declared.TokenType.the-variants as type
-use Rattle.sources.specs.Source.{Source, byteIn}
-use Rattle.names.specs.Names.{typeIn}
+use Rattle.sources.specs.Source.{Source}
+use Rattle.names.specs.Names.{typeAt}
 
 -- n bytes from span i and none from the others, for span j
 unfoldable pub from : ℕ → ℕ → ℕ → ℕ
@@ -32,7 +32,7 @@ valueTakes s p type.Other j = 0
 
 -- what position p takes: the type, and the value
 unfoldable pub positionTakes : Source → ℕ → ℕ → ℕ
-positionTakes s p j = from (spanOf p typeStream) 1 j + valueTakes s p (typeIn (byteIn s p typeStream)) j
+positionTakes s p j = from (spanOf p typeStream) 1 j + valueTakes s p (typeAt s p) j
 
 -- so many positions from p on
 unfoldable pub takesFrom : Source → ℕ → ℕ → ℕ → ℕ

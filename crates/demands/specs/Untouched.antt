@@ -10,6 +10,7 @@ use Rattle.entries.specs.Outcomes.{Outcome}
 use Rattle.writing.specs.declared.WriteAnswer.the-variants.{Refused}
 use Rattle.writing.specs.Writes.{Writing}
 use Rattle.demands.specs.Runs.{Lent, read, left, Keeps}
+use Rattle.tokens.specs.Types.{Rules}
 
 -- the cursors, the state and all buffers are as they were
 pub record Untouched (s : Source) (m : Kept) (o : Outcome) : Type 0 where
@@ -17,11 +18,11 @@ pub record Untouched (s : Source) (m : Kept) (o : Outcome) : Type 0 where
   pub memory : o .kept ≡ m
 
 -- a whole-block read, from what opening left: reads that keep a name, then one that doesn't. The answer is that one's, and what those before it did, stays
-pub record Whole (bytes dir : List ℕ) (l : Lent) (o : Outcome) : Type 0 where
+pub record Whole (rules : Rules) (bytes dir : List ℕ) (l : Lent) (o : Outcome) : Type 0 where
   pub names : ℕ
   pub last : Lent
-  pub before : Keeps bytes dir names l last
-  pub answers : o .answer ≡ read bytes dir last .answer
+  pub before : Keeps rules bytes dir names l last
+  pub answers : o .answer ≡ read rules bytes dir last .answer
   pub stops : (i : ℕ) → o .answer ≡ answer.Kept i → ⊥
   pub stays : left o ≡ last
 

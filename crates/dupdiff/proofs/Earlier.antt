@@ -7,6 +7,7 @@ use native.Mathlib.Omega.{arith}
 use lib.ListN.{length}
 use Rattle.base.proofs.Choice.{took, left}
 use Rattle.block.specs.declared.State.{State}
+use Rattle.tokens.specs.Types.{Rules}
 use Rattle.kept.specs.declared.Entry.{Entry}
 use Rattle.kept.specs.Tables.{entrySize, rowSize, keeping, entryAt}
 use Rattle.kept.specs.Judgement.{earlierFits}
@@ -56,7 +57,7 @@ module _ (st : State) (text names rows : List ℕ) (i : ℕ) (c : Counted (keepi
   pub back-text : earlierFits (keeping st text names rows) i ≡ true → {e : Entry} → e ≡ entryAt names i → inside.TextInside st e
   back-text h {e} q = rw q (back-inside h .text)
 
-module _ (bytes dir cur text names rows : List ℕ) (st : State) (d : ℕ) where
+module _ (rules : Rules) (bytes dir cur text names rows : List ℕ) (st : State) (d : ℕ) where
   -- it is the one so far back
   module _ {i : ℕ} where
     far-fits : i ≡ st .names - d → {t : Bool} → earlierFits (keeping st text names rows) i ≡ t → earlierFits (keeping st text names rows) (st .names - d) ≡ t
@@ -66,9 +67,9 @@ module _ (bytes dir cur text names rows : List ℕ) (st : State) (d : ℕ) where
     far-entry s q = q ∙ ap (entryAt names) s ∙ sym (back-entry (keeping st text names rows) d)
 
     pub dup-fit : earlierFits (keeping st text names rows) i ≡ true → {e : Entry} → e ≡ entryAt names i → {o : Outcome}
-        → o ≡ dupOf (source bytes dir cur) (keeping st text names rows) d e → i ≡ st .names - d → o ≡ dupJudged (source bytes dir cur) (keeping st text names rows) d
-    dup-fit h q r s = took _ _ (far-fits s h) (r ∙ ap (dupOf (source bytes dir cur) (keeping st text names rows) d) (far-entry s q))
+        → o ≡ dupOf (source rules bytes dir cur) (keeping st text names rows) d e → i ≡ st .names - d → o ≡ dupJudged (source rules bytes dir cur) (keeping st text names rows) d
+    dup-fit h q r s = took _ _ (far-fits s h) (r ∙ ap (dupOf (source rules bytes dir cur) (keeping st text names rows) d) (far-entry s q))
 
     pub dup-unfit : earlierFits (keeping st text names rows) i ≡ false → {r : Reading} → r ≡ refusing st 13 → i ≡ st .names - d
-        → outcome (r .answer) cur (keeping (r .state) text names rows) ≡ dupJudged (source bytes dir cur) (keeping st text names rows) d
-    dup-unfit h q s = left _ _ (far-fits s h) (refused-at bytes dir cur text names rows st 13 q)
+        → outcome (r .answer) cur (keeping (r .state) text names rows) ≡ dupJudged (source rules bytes dir cur) (keeping st text names rows) d
+    dup-unfit h q s = left _ _ (far-fits s h) (refused-at rules bytes dir cur text names rows st 13 q)

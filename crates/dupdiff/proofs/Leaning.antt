@@ -9,6 +9,7 @@ use lib.Dec.{eqb}
 use Rattle.base.specs.Choice.{pick}
 use Rattle.base.proofs.Choice.{took, left, pick-holds}
 use Rattle.block.specs.declared.State.{State}
+use Rattle.tokens.specs.Types.{Rules}
 use Rattle.kept.specs.Tables.{keeping, entryAt}
 use Rattle.kept.specs.Judgement.{earlierFits}
 use Rattle.kept.specs.Inside.{Counted}
@@ -40,7 +41,7 @@ module _ (text rows : List ℕ) (st : State) (known : Bool) where
   Leant (back.Rows f n) = (Rows (st .text) (earlier text rows f n) × (f + n ≤ st .rows)) × Repeats known (earlier text rows f n)
   Leant back.Outside = Unit
 
-module _ (bytes dir cur text names rows : List ℕ) (st : State) (d : ℕ) where
+module _ (rules : Rules) (bytes dir cur text names rows : List ℕ) (st : State) (d : ℕ) where
   -- what the kept text is doesn't matter
   same-back : backOf (keeping st [] names rows) d ≡ backOf (keeping st text names rows) d
   unfolding backOf entryBack
@@ -50,27 +51,27 @@ module _ (bytes dir cur text names rows : List ℕ) (st : State) (d : ℕ) where
 
   -- a DIFF over them
   over : Back → Outcome
-  over (back.Rows f n) = diffOf (source bytes dir cur) (keeping st text names rows) d (earlier text rows f n)
-  over back.Outside = atName (source bytes dir cur) (keeping st text names rows) 13
+  over (back.Rows f n) = diffOf (source rules bytes dir cur) (keeping st text names rows) d (earlier text rows f n)
+  over back.Outside = atName (source rules bytes dir cur) (keeping st text names rows) 13
 
-  over-judged : over (backOf (keeping st text names rows) d) ≡ diffJudged (source bytes dir cur) (keeping st text names rows) d
+  over-judged : over (backOf (keeping st text names rows) d) ≡ diffJudged (source rules bytes dir cur) (keeping st text names rows) d
   unfolding backOf none rowsOf over
   over-judged =
-      let J : Back → Type 0 = λ x. over x ≡ diffJudged (source bytes dir cur) (keeping st text names rows) d in
+      let J : Back → Type 0 = λ x. over x ≡ diffJudged (source rules bytes dir cur) (keeping st text names rows) d in
       pick-holds J (eqb d 0) _ _
-      (λ h. took _ _ h (ap (λ (x : ℕ). diffOf (source bytes dir cur) (keeping st text names rows) x (earlier text rows 0 0)) (eqb-true _ _ h)))
+      (λ h. took _ _ h (ap (λ (x : ℕ). diffOf (source rules bytes dir cur) (keeping st text names rows) x (earlier text rows 0 0)) (eqb-true _ _ h)))
       (λ h. pick-holds J (earlierFits (keeping st text names rows) (st .names - d)) _ _ (λ g. left _ _ h (took _ _ g refl)) (λ g. left _ _ h (left _ _ g refl)))
 
   module _ {b : Back} (e : b ≡ backOf (keeping st [] names rows) d) where
-    pub diff-over : {f n : ℕ} → b ≡ back.Rows f n → {o : Outcome} → o ≡ diffOf (source bytes dir cur) (keeping st text names rows) d (earlier text rows f n)
-        → o ≡ diffJudged (source bytes dir cur) (keeping st text names rows) d
+    pub diff-over : {f n : ℕ} → b ≡ back.Rows f n → {o : Outcome} → o ≡ diffOf (source rules bytes dir cur) (keeping st text names rows) d (earlier text rows f n)
+        → o ≡ diffJudged (source rules bytes dir cur) (keeping st text names rows) d
     unfolding over
     diff-over h q = q ∙ ap over (sym h ∙ e ∙ same-back) ∙ over-judged
 
     pub diff-outside : b ≡ back.Outside → {r : Reading} → r ≡ refusing st 13
-        → outcome (r .answer) cur (keeping (r .state) text names rows) ≡ diffJudged (source bytes dir cur) (keeping st text names rows) d
+        → outcome (r .answer) cur (keeping (r .state) text names rows) ≡ diffJudged (source rules bytes dir cur) (keeping st text names rows) d
     unfolding over
-    diff-outside h q = refused-at bytes dir cur text names rows st 13 q ∙ ap over (sym h ∙ e ∙ same-back) ∙ over-judged
+    diff-outside h q = refused-at rules bytes dir cur text names rows st 13 q ∙ ap over (sym h ∙ e ∙ same-back) ∙ over-judged
 
     module _ (c : Counted (keeping st text names rows)) (near : d ≤ st .names) {known : Bool} (k : Known known (keeping st text names rows)) where
       leant : Leant text rows st known (backOf (keeping st text names rows) d)

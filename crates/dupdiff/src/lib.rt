@@ -6,6 +6,7 @@ ghost use lib.ListN.{length};
 ghost use Rattle.block.specs.Open.{Open};
 ghost use Rattle.kept.specs.Tables.{keeping, tablesLent};
 ghost use Rattle.kept.specs.Inside.{Counted};
+ghost use Rattle.tokens.specs.Types.{Rules, rulesOf};
 ghost use Rattle.sources.specs.Source.{source, blockLent};
 ghost use Rattle.earlier.specs.Fits.{Known};
 ghost use Rattle.entries.specs.Outcomes.{leaves};
@@ -14,6 +15,7 @@ ghost use Rattle.copying.specs.Copies.{leavesRows};
 ghost use Rattle.dupdiff.specs.Judged.{dupJudged, diffJudged};
 ghost use Rattle.base.specs.Lent.{lent};
 ghost use Rattle.block.specs.Streams.{dupStream, diffStream};
+use block::Setting;
 use block::State;
 use earlier::Back;
 use entries::Reading;
@@ -34,7 +36,7 @@ pub fn dup(
     requires { ⌜ (1 ≤ distance .0) × (distance .0 ≤ state .names) ⌝ }
     requires { ⌜ (length (now cursors) ≡ 1290) × Passable (now cursors) dupStream ⌝ }
     requires { ⌜ Known known (keeping state (now text) (now entries) (now rows)) ⌝ }
-    ensures { λ r. ⌜ ((bytes dir : List ℕ) → leavesRows r cursors text entries rows ≡ dupJudged (source bytes dir (lent cursors)) (tablesLent state text entries rows) (distance .0)) ⌝ }
+    ensures { λ r. ⌜ ((rules : Rules) (b d : List ℕ) → leavesRows r cursors text entries rows ≡ dupJudged (source rules b d (lent cursors)) (tablesLent state text entries rows) (distance .0)) ⌝ }
 {
     let back = state.names - distance.0;
     if earlier::fits_back(known, state, entries, rows, back) {
@@ -47,6 +49,7 @@ pub fn dup(
 
 // DIFF, with the earlier name judged or known to fit if there is one.
 pub fn diff(
+    set: Setting,
     known: bool,
     bytes: &[u8],
     dir: &[u32],
@@ -59,12 +62,13 @@ pub fn diff(
 ) -> Reading
     requires { ⌜ Open (now bytes) (now dir) (now cursors) ⌝ }
     requires { ⌜ Counted (keeping state (now text) (now entries) (now rows)) ⌝ }
-    requires { ⌜ Headed (source (now bytes) (now dir) (now cursors)) diffStream (distance .0) (state .names) ⌝ }
+    requires { ⌜ Headed (source (rulesOf set) (now bytes) (now dir) (now cursors)) diffStream (distance .0) (state .names) ⌝ }
     requires { ⌜ Known known (keeping state (now text) (now entries) (now rows)) ⌝ }
-    ensures { λ r. ⌜ leaves r cursors text entries rows ≡ diffJudged (blockLent bytes dir cursors) (tablesLent state text entries rows) (distance .0) ⌝ }
+    ensures { λ r. ⌜ leaves r cursors text entries rows ≡ diffJudged (blockLent set bytes dir cursors) (tablesLent state text entries rows) (distance .0) ⌝ }
 {
     match earlier::leans(known, state, entries, rows, distance) {
         Back::Rows { first, count } => naming::named(
+            set,
             known,
             bytes,
             dir,

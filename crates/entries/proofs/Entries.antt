@@ -12,6 +12,7 @@ use Rattle.base.proofs.Numbers.{by-order}
 use Rattle.base.proofs.Choice.{took, left, both-true, by-test}
 use Rattle.block.specs.declared.State.{State}
 use Rattle.block.specs.Block.{state}
+use Rattle.tokens.specs.Types.{Rules}
 use Rattle.kept.specs.Tables.{keeping, entrySize, rowSize, room}
 use Rattle.kept.specs.Inside.{Counted}
 use Rattle.kept.proofs.Laws.{room-holds, room-of}
@@ -38,11 +39,6 @@ unfolding keepingName
 entered st size added p q t r = rw (p, q, t, r)
 
 module _ (bytes dir cur text names rows : List ℕ) (st : State) where
-  pub refused-at : {r : Reading} (n : ℕ) → r ≡ refusing st n
-      → outcome (r .answer) cur (keeping (r .state) text names rows) ≡ atName (source bytes dir cur) (keeping st text names rows) n
-  unfolding refusing atName
-  refused-at n q = rw q
-
   -- what room is
   pub record Room (size added : ℕ) : Type 0 where
     pub texts : st .text + size + 1 ≤ length text
@@ -65,15 +61,21 @@ module _ (bytes dir cur text names rows : List ℕ) (st : State) where
   unfolding roomFor
   room-same d size added e f = rw (e, f)
 
+module _ (rules : Rules) (bytes dir cur text names rows : List ℕ) (st : State) where
+  pub refused-at : {r : Reading} (n : ℕ) → r ≡ refusing st n
+      → outcome (r .answer) cur (keeping (r .state) text names rows) ≡ atName (source rules bytes dir cur) (keeping st text names rows) n
+  unfolding refusing atName
+  refused-at n q = rw q
+
   module _ (d : Draft) (first many distance size added : ℕ) (e : size ≡ length (d .text)) (f : added ≡ d .count) where
     pub keep-refused : {r : Reading} → roomOf (keeping st text names rows) size added ≡ false → r ≡ refusing st 9
-        → outcome (r .answer) cur (keeping (r .state) text names rows) ≡ keepOf (source bytes dir cur) (keeping st text names rows) d first many distance
+        → outcome (r .answer) cur (keeping (r .state) text names rows) ≡ keepOf (source rules bytes dir cur) (keeping st text names rows) d first many distance
     unfolding keepOf
-    keep-refused h q = left _ _ (sym (room-same d size added e f) ∙ h) (refused-at 9 q)
+    keep-refused h q = left _ _ (sym (room-same bytes dir cur text names rows st d size added e f) ∙ h) (refused-at 9 q)
 
     pub keep-kept : {r : Reading} {cur' text' names' rows' : List ℕ} → roomOf (keeping st text names rows) size added ≡ true → r ≡ keepingName st size added
         → cur' ≡ d .cur → text' ≡ written text (st .text) (d .text ++ (10 ∷ [])) → names' ≡ written names (entrySize * st .names) (entryOf st size first many distance)
         → rows' ≡ written rows (rowSize * st .rows) (d .rows)
-        → outcome (r .answer) cur' (keeping (r .state) text' names' rows') ≡ keepOf (source bytes dir cur) (keeping st text names rows) d first many distance
+        → outcome (r .answer) cur' (keeping (r .state) text' names' rows') ≡ keepOf (source rules bytes dir cur) (keeping st text names rows) d first many distance
     unfolding keepOf kept keepingName
-    keep-kept h q c t n w = took _ _ (sym (room-same d size added e f) ∙ h) (rw (q, c, t, n, w, e, f))
+    keep-kept h q c t n w = took _ _ (sym (room-same bytes dir cur text names rows st d size added e f) ∙ h) (rw (q, c, t, n, w, e, f))

@@ -5,6 +5,7 @@ use mathlib.Core.Bool.{true}
 use mathlib.Core.List.{List}
 use lib.ListN.{length}
 use Rattle.base.specs.Lent.{Buffer, lent, left}
+use Rattle.tokens.specs.Types.{Rules}
 use Rattle.inputs.specs.declared.Judged.the-variants.{Fine}
 use Rattle.inputs.specs.Inputs.{namesOf, ended, judgedFrom}
 use Rattle.laying.specs.Puts.{Put, totalOf, directoryOf, bytesOf}
@@ -18,10 +19,10 @@ pub record Ready (input dir : List ℕ) : Type 0 where
   pub table : length dir ≡ 2580
 
 -- all that the names of a lent input put
-abbrev pub putsLent : Buffer → List Put
-putsLent input = putsOf (namesOf (lent input))
+abbrev pub putsLent : Rules → Buffer → List Put
+putsLent rules input = putsOf rules (namesOf (lent input))
 
 -- the total, and the directory and the bytes that hold it
-abbrev pub Filled : ℕ → Buffer → Buffer → Buffer → Type 0
-Filled total directory bytes input =
-    (total ≡ totalOf (putsLent input)) × ((left directory ≡ directoryOf (putsLent input)) × (left bytes ≡ bytesOf (putsLent input) (lent bytes)))
+abbrev pub Filled : Rules → ℕ → Buffer → Buffer → Buffer → Type 0
+Filled rules total directory bytes input =
+    (total ≡ totalOf (putsLent rules input)) × ((left directory ≡ directoryOf (putsLent rules input)) × (left bytes ≡ bytesOf (putsLent rules input) (lent bytes)))

@@ -20,7 +20,8 @@ use Rattle.block.specs.Block.{spanOf, endOf, cursorOf}
 use Rattle.block.specs.Open.{Open}
 use Rattle.block.proofs.Laws.{span-below, span-stream, cursor-set-other, open-set}
 use Rattle.block.specs.Streams.{typeStream, dupStream, diffStream}
-use Rattle.tokens.specs.Types.{dupNumber, diffNumber}
+use Rattle.tokens.specs.Types.{Rules}
+use Rattle.tokens.proofs.Laws.{dup-not-diff}
 use Rattle.sources.specs.Source.{Source, source, byteIn}
 use Rattle.moving.specs.Moves.{past}
 use Rattle.names.proofs.Cursors.{byte-reach, four-reach}
@@ -46,7 +47,7 @@ module _ (n : ℕ) {d : ℕ} {c : Cursor} {found : NextFour} (q : found ≡ four
 
   pub diff-far : diffFits d n ≡ false → head.Refused 4 ≡ diffHead n found
   unfolding diffHead
-  diff-far h = rw q (left _ _ h refl)
+  diff-far h = rw (q, pick-false _ _ h)
 
 pub dup-short : (n : ℕ) {found : NextFour} → found ≡ four.Short → head.Refused 2 ≡ dupHead n found
 unfolding dupHead
@@ -62,15 +63,15 @@ module _ (s : Source) (n : ℕ) where
   head-short q = rw q
 
   module _ {t : ℕ} {c : Cursor} (q : byteIn s 0 0 ≡ byte.Value t c) where
-    pub head-dup : {found : NextFour} {r : Head} → t ≡ dupNumber → found ≡ distanceIn s dupStream → r ≡ dupHead n found → r ≡ headOf s n
+    pub head-dup : {found : NextFour} {r : Head} → t ≡ s .rules .numbers .dup → found ≡ distanceIn s dupStream → r ≡ dupHead n found → r ≡ headOf s n
     unfolding headOf typedHead
     head-dup k f h = rw q (took _ _ (eq-eqb _ _ k) (h ∙ ap (dupHead n) f))
 
-    pub head-diff : {found : NextFour} {r : Head} → t ≡ diffNumber → found ≡ distanceIn s diffStream → r ≡ diffHead n found → r ≡ headOf s n
+    pub head-diff : {found : NextFour} {r : Head} → t ≡ s .rules .numbers .diff → found ≡ distanceIn s diffStream → r ≡ diffHead n found → r ≡ headOf s n
     unfolding headOf typedHead
-    head-diff k f h = rw q (left _ _ (ne-eqb t dupNumber (λ z. omega arith)) (took _ _ (eq-eqb _ _ k) (h ∙ ap (diffHead n) f)))
+    head-diff k f h = rw q (left _ _ (ne-eqb t (s .rules .numbers .dup) (λ z. dup-not-diff (s .rules .numbers) (sym k ∙ z))) (took _ _ (eq-eqb _ _ k) (h ∙ ap (diffHead n) f)))
 
-    pub head-other : (t ≡ dupNumber → ⊥) → (t ≡ diffNumber → ⊥) → head.Refused 3 ≡ headOf s n
+    pub head-other : (t ≡ s .rules .numbers .dup → ⊥) → (t ≡ s .rules .numbers .diff → ⊥) → head.Refused 3 ≡ headOf s n
     unfolding headOf typedHead
     head-other a b = rw q (left _ _ (ne-eqb _ _ a) (left _ _ (ne-eqb _ _ b) refl))
 
@@ -150,13 +151,13 @@ module _ (s : Source) (n : ℕ) (d : Distance) where
   typed-dup (byte.Value t c) q r =
       let x = dupHead n (distanceIn s dupStream) in
       let y = diffHead n (distanceIn s diffStream) in
-      let z = pick (eqb t 6) y (head.Refused 3) in
-      by-test (eqb t dupNumber)
+      let z = pick (eqb t (s .rules .numbers .diff)) y (head.Refused 3) in
+      by-test (eqb t (s .rules .numbers .dup))
       (λ a.
       let w = dup-four (distanceIn s dupStream) refl (sym (pick-true x z a) ∙ r) in
       (w .0 .0, record { near = w .0 .1; typed = byte-reach s 0 0 q .1 .high; four = w .1 }))
       (λ a.
-      by-test (eqb t 6)
+      by-test (eqb t (s .rules .numbers .diff))
       (λ b. absurd (diff-no-dup (distanceIn s diffStream) (sym (pick-true y (head.Refused 3) b) ∙ sym (pick-false x z a) ∙ r)))
       (λ b. absurd (never-dup (sym (pick-false y (head.Refused 3) b) ∙ sym (pick-false x z a) ∙ r))))
   typed-dup byte.Short q r = absurd (never-dup r)
@@ -166,11 +167,11 @@ module _ (s : Source) (n : ℕ) (d : Distance) where
   typed-diff (byte.Value t c) q r =
       let x = dupHead n (distanceIn s dupStream) in
       let y = diffHead n (distanceIn s diffStream) in
-      let z = pick (eqb t 6) y (head.Refused 3) in
-      by-test (eqb t dupNumber)
+      let z = pick (eqb t (s .rules .numbers .diff)) y (head.Refused 3) in
+      by-test (eqb t (s .rules .numbers .dup))
       (λ a. absurd (dup-no-diff (distanceIn s dupStream) (sym (pick-true x z a) ∙ r)))
       (λ a.
-      by-test (eqb t 6)
+      by-test (eqb t (s .rules .numbers .diff))
       (λ b.
       let w = diff-four (distanceIn s diffStream) refl (sym (pick-true y (head.Refused 3) b) ∙ sym (pick-false x z a) ∙ r) in
       record { near = w .0; typed = byte-reach s 0 0 q .1 .high; four = w .1 })
@@ -186,14 +187,14 @@ module _ (s : Source) (n : ℕ) (d : Distance) where
   diff-told r = typed-diff (byteIn s 0 0) refl r
 
 -- past a head every cursor is inside its span
-pub head-open : (bytes dir cur : List ℕ) (i d n : ℕ) → Open bytes dir cur → 1 ≤ i → i ≤ 9 → Headed (source bytes dir cur) i d n → Open bytes dir (headPast cur i)
+pub head-open : (rules : Rules) (bytes dir cur : List ℕ) (i d n : ℕ) → Open bytes dir cur → 1 ≤ i → i ≤ 9 → Headed (source rules bytes dir cur) i d n → Open bytes dir (headPast cur i)
 unfolding headPast past
-head-open bytes dir cur i d n o h k g =
+head-open rules bytes dir cur i d n o h k g =
     let typed = open-set bytes dir cur (spanOf 0 0) (cursorOf cur (spanOf 0 0) + 1) o (span-below 0 0 (omega arith) (omega arith)) (omega arith) (g .typed) in
     let w = cursor-set-other cur (spanOf 0 0) (cursorOf cur (spanOf 0 0) + 1) (spanOf 0 i) (λ q. let z = span-stream 0 i 0 0 k (omega arith) q in omega arith) in
     open-set bytes dir (set cur (spanOf 0 0) (cursorOf cur (spanOf 0 0) + 1)) (spanOf 0 i) _ typed (span-below 0 i (omega arith) k) (omega arith) (omega (arith, g .four))
 
-pub head-passable : (bytes dir cur : List ℕ) (i d n : ℕ) → Below (2 ^ 32) dir → Headed (source bytes dir cur) i d n → Passable cur i
+pub head-passable : (rules : Rules) (bytes dir cur : List ℕ) (i d n : ℕ) → Below (2 ^ 32) dir → Headed (source rules bytes dir cur) i d n → Passable cur i
 unfolding endOf
-head-passable bytes dir cur i d n b g =
+head-passable rules bytes dir cur i d n b g =
     record { typed = omega (arith, g .typed, b (2 * spanOf 0 0 + 1)); four = omega (arith, g .four, b (2 * spanOf 0 i + 1)) }

@@ -10,7 +10,6 @@ use Rattle.spans.specs.declared.NextFour.{NextFour}
 use Rattle.spans.specs.declared.NextFour.the-variants as four
 use Rattle.block.specs.Block.{spanOf}
 use Rattle.block.specs.Streams.{typeStream, dupStream, diffStream}
-use Rattle.tokens.specs.Types.{dupNumber, diffNumber}
 use Rattle.sources.specs.Source.{Source, byteIn, fourIn}
 use Rattle.moving.specs.Moves.{past}
 use Rattle.heads.specs.declared.Head.{Head}
@@ -39,8 +38,8 @@ distanceIn s stream = fourIn s 0 stream
 -- rule 1: the type at position 0, DUP or DIFF, and the distance
 unfoldable pub typedHead : Source → ℕ → NextByte → Head
 typedHead s n (byte.Value t c) =
-    pick (eqb t dupNumber) (dupHead n (distanceIn s dupStream))
-    (pick (eqb t diffNumber) (diffHead n (distanceIn s diffStream))
+    pick (eqb t (s .rules .numbers .dup)) (dupHead n (distanceIn s dupStream))
+    (pick (eqb t (s .rules .numbers .diff)) (diffHead n (distanceIn s diffStream))
     (head.Refused 3))
 typedHead s n byte.Short = head.Refused 2
 

@@ -3,11 +3,13 @@ ghost use mathlib.Core.Path.{_≡_};
 ghost use Prim.Native.Nat.{_≤_};
 ghost use lib.ListN.{length};
 ghost use Rattle.block.specs.Open.{Open};
-ghost use Rattle.sources.specs.Source.{blockLent};
+ghost use Rattle.tokens.specs.Types.{Rules};
+ghost use Rattle.sources.specs.Source.{source, blockLent};
 ghost use Rattle.heads.specs.Headed.{Passable};
 ghost use Rattle.heads.specs.Heads.{dupFits, diffFits, dupHead, diffHead, distanceIn, headOf, headPast};
 ghost use Rattle.base.specs.Lent.{lent, left};
 use crate::Head;
+use block::Setting;
 use block::stream;
 use spans::Distance;
 use spans::NextByte;
@@ -63,22 +65,27 @@ fn diff_head(n: u32, found: NextFour) -> Head
 fn distance_in(bytes: &[u8], dir: &[u32], cursors: &[u32], stream: u32) -> NextFour
     requires { ⌜ Open (now bytes) (now dir) (now cursors) ⌝ }
     requires { ⌜ stream ≤ 9 ⌝ }
-    ensures { λ r. ⌜ r ≡ distanceIn (blockLent bytes dir cursors) stream ⌝ }
+    ensures { λ r. ⌜ ((rules : Rules) → r ≡ distanceIn (source rules (lent bytes) (lent dir) (lent cursors)) stream) ⌝ }
 {
     sources::four_in(bytes, dir, cursors, Position(0), stream)
 }
 
 // Name n's.
-pub fn head(bytes: &[u8], dir: &[u32], cursors: &[u32], n: u32) -> Head
+pub fn head(set: Setting, bytes: &[u8], dir: &[u32], cursors: &[u32], n: u32) -> Head
     requires { ⌜ Open (now bytes) (now dir) (now cursors) ⌝ }
-    ensures { λ r. ⌜ r ≡ headOf (blockLent bytes dir cursors) n ⌝ }
+    ensures { λ r. ⌜ r ≡ headOf (blockLent set bytes dir cursors) n ⌝ }
 {
     match sources::byte_in(bytes, dir, cursors, Position(0), stream::TYPE) {
-        NextByte::Value(t, _) => match t {
-            tokens::DUP => dup_head(n, distance_in(bytes, dir, cursors, stream::DUP)),
-            tokens::DIFF => diff_head(n, distance_in(bytes, dir, cursors, stream::DIFF)),
-            _ => Head::Refused(3),
-        },
+        NextByte::Value(t, _) => {
+            let kind = set.kind;
+            if t == tokens::dup_number(kind) {
+                dup_head(n, distance_in(bytes, dir, cursors, stream::DUP))
+            } else if t == tokens::diff_number(kind) {
+                diff_head(n, distance_in(bytes, dir, cursors, stream::DIFF))
+            } else {
+                Head::Refused(3)
+            }
+        }
         NextByte::Short => Head::Refused(2),
     }
 }

@@ -10,6 +10,7 @@ use Rattle.spans.specs.declared.Distance.{Distance}
 use Rattle.block.specs.declared.State.{State}
 use Rattle.block.specs.Block.{allAtEnd}
 use Rattle.block.specs.declared.Refusal.the-variants as refusal
+use Rattle.tokens.specs.Types.{Rules}
 use Rattle.kept.specs.Tables.{keeping}
 use Rattle.sources.specs.Source.{source}
 use Rattle.entries.specs.declared.Reading.{Reading}
@@ -31,34 +32,34 @@ pub finish-short : (st : State) {b : Bool} → b ≡ false → reading (answer.R
 unfolding finishing
 finish-short st h = ap (λ (x : Answer). reading x st) (left _ _ h refl)
 
-module _ (bytes dir cur text names rows : List ℕ) (st : State) where
+module _ (rules : Rules) (bytes dir cur text names rows : List ℕ) (st : State) where
   finished-is : (b : Bool) {r : Reading} → r ≡ finishing st b
-      → outcome (r .answer) cur (keeping (r .state) text names rows) ≡ pick b (outcome answer.Done cur (keeping st text names rows)) (plain (source bytes dir cur) (keeping st text names rows) 10)
+      → outcome (r .answer) cur (keeping (r .state) text names rows) ≡ pick b (outcome answer.Done cur (keeping st text names rows)) (plain (source rules bytes dir cur) (keeping st text names rows) 10)
   unfolding finishing plain pick
   finished-is true q = rw q
   finished-is false q = rw q
 
   pub next-finished : st .names ≡ st .count → {r : Reading} → r ≡ finishing st (allAtEnd dir cur)
-      → outcome (r .answer) cur (keeping (r .state) text names rows) ≡ nextOf (source bytes dir cur) (keeping st text names rows)
+      → outcome (r .answer) cur (keeping (r .state) text names rows) ≡ nextOf (source rules bytes dir cur) (keeping st text names rows)
   unfolding nextOf
   next-finished e q = took _ _ (eq-eqb _ _ e) (finished-is (allAtEnd dir cur) q)
 
-  module _ (n : st .names ≡ st .count → ⊥) (h : Head) (f : h ≡ headOf (source bytes dir cur) (st .names)) where
-    on : {o : Outcome} → o ≡ headedOf (source bytes dir cur) (keeping st text names rows) h → o ≡ nextOf (source bytes dir cur) (keeping st text names rows)
+  module _ (n : st .names ≡ st .count → ⊥) (h : Head) (f : h ≡ headOf (source rules bytes dir cur) (st .names)) where
+    on : {o : Outcome} → o ≡ headedOf (source rules bytes dir cur) (keeping st text names rows) h → o ≡ nextOf (source rules bytes dir cur) (keeping st text names rows)
     unfolding nextOf
-    on q = left _ _ (ne-eqb _ _ n) (q ∙ ap (headedOf (source bytes dir cur) (keeping st text names rows)) f)
+    on q = left _ _ (ne-eqb _ _ n) (q ∙ ap (headedOf (source rules bytes dir cur) (keeping st text names rows)) f)
 
-    pub next-dup : {d : Distance} → h ≡ head.Dup d → {o : Outcome} → o ≡ dupJudged (source bytes dir cur) (keeping st text names rows) (d .0)
-        → o ≡ nextOf (source bytes dir cur) (keeping st text names rows)
+    pub next-dup : {d : Distance} → h ≡ head.Dup d → {o : Outcome} → o ≡ dupJudged (source rules bytes dir cur) (keeping st text names rows) (d .0)
+        → o ≡ nextOf (source rules bytes dir cur) (keeping st text names rows)
     unfolding headedOf
     next-dup e q = on (rw e q)
 
-    pub next-diff : {d : Distance} → h ≡ head.Diff d → {o : Outcome} → o ≡ diffJudged (source bytes dir cur) (keeping st text names rows) (d .0)
-        → o ≡ nextOf (source bytes dir cur) (keeping st text names rows)
+    pub next-diff : {d : Distance} → h ≡ head.Diff d → {o : Outcome} → o ≡ diffJudged (source rules bytes dir cur) (keeping st text names rows) (d .0)
+        → o ≡ nextOf (source rules bytes dir cur) (keeping st text names rows)
     unfolding headedOf
     next-diff e q = on (rw e q)
 
     pub next-refused : {k : ℕ} → h ≡ head.Refused k → {r : Reading} → r ≡ refusing st k
-        → outcome (r .answer) cur (keeping (r .state) text names rows) ≡ nextOf (source bytes dir cur) (keeping st text names rows)
+        → outcome (r .answer) cur (keeping (r .state) text names rows) ≡ nextOf (source rules bytes dir cur) (keeping st text names rows)
     unfolding headedOf
-    next-refused {k} e q = on (rw e (refused-at bytes dir cur text names rows st k q))
+    next-refused {k} e q = on (rw e (refused-at rules bytes dir cur text names rows st k q))

@@ -12,6 +12,7 @@ ghost use Rattle.entries.specs.Outcomes.{finishing, leaves};
 ghost use Rattle.inner.specs.Next.{nextOf};
 ghost use Rattle.base.specs.Lent.{lent};
 use block::Refusal;
+use block::Setting;
 use block::State;
 use entries::Answer;
 use entries::Reading;
@@ -37,6 +38,7 @@ fn finish(dir: &[u32], cursors: &[u32], state: State) -> Reading
 }
 
 pub fn next(
+    set: Setting,
     known: bool,
     bytes: &[u8],
     dir: &[u32],
@@ -49,15 +51,26 @@ pub fn next(
     requires { ⌜ Open (now bytes) (now dir) (now cursors) ⌝ }
     requires { ⌜ Counted (keeping state (now text) (now entries) (now rows)) ⌝ }
     requires { ⌜ Known known (keeping state (now text) (now entries) (now rows)) ⌝ }
-    ensures { λ r. ⌜ leaves r cursors text entries rows ≡ nextOf (blockLent bytes dir cursors) (tablesLent state text entries rows) ⌝ }
+    ensures { λ r. ⌜ leaves r cursors text entries rows ≡ nextOf (blockLent set bytes dir cursors) (tablesLent state text entries rows) ⌝ }
 {
     let k = state.names;
     if k == state.count {
         return finish(dir, cursors, state);
     }
-    match heading::head(bytes, dir, cursors, k) {
+    match heading::head(set, bytes, dir, cursors, k) {
         Head::Dup(d) => dupdiff::dup(known, cursors, text, entries, rows, state, d),
-        Head::Diff(d) => dupdiff::diff(known, bytes, dir, cursors, text, entries, rows, state, d),
+        Head::Diff(d) => dupdiff::diff(
+            set,
+            known,
+            bytes,
+            dir,
+            cursors,
+            text,
+            entries,
+            rows,
+            state,
+            d,
+        ),
         Head::Refused(r) => entries::refuse(r, state),
     }
 }

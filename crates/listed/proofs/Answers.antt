@@ -9,6 +9,7 @@ use lib.Dec.{eqb}
 use lib.ListN.{length}
 use Rattle.base.proofs.Choice.{pick-true, pick-false, by-test}
 use Rattle.block.specs.declared.Refusal.the-variants.{Plain, At}
+use Rattle.tokens.specs.Types.{draftPlain, Rules, rulesOf}
 use Rattle.laying.specs.Puts.{totalOf}
 use Rattle.inputs.specs.declared.Judged.{Judged}
 use Rattle.inputs.specs.declared.Judged.the-variants.{Fine, Bad}
@@ -46,7 +47,7 @@ module _ (input : List ℕ) where
   listed-long h = pick-true _ _ (lt-ltb _ _ h)
 
   module _ (h : length input ≤ 4096) where
-    listed : {a : WriteAnswer} → answerOf input ≡ a → listedOf input ≡ answerText (namesOf input) a
+    listed : {a : WriteAnswer} → answerOf (rulesOf draftPlain) input ≡ a → listedOf input ≡ answerText (namesOf input) a
     unfolding listedOf listingOf
     listed e = pick-false _ _ (le-ltb _ _ h) ∙ ap (answerText (namesOf input)) e
 
@@ -55,25 +56,25 @@ module _ (input : List ℕ) where
     listed-unended e = listed {a = Refused (Plain 12)} (pick-false _ _ (unended input e))
 
     module _ (e : ended input ≡ true) where
-      answer : answerOf input ≡ judgedAnswer (judgedFrom 0 (namesOf input)) (namesOf input)
+      answer : answerOf (rulesOf draftPlain) input ≡ judgedAnswer (rulesOf draftPlain) (judgedFrom 0 (namesOf input)) (namesOf input)
       unfolding answerOf
       answer = pick-true _ _ (countable-of input e (few-names input h))
 
       pub listed-bad : {n : ℕ} → judgedFrom 0 (namesOf input) ≡ Bad n → listedOf input ≡ refusalText (At 8 n)
       unfolding answerText judgedAnswer
-      listed-bad {n} f = listed {a = Refused (At 8 n)} (answer ∙ ap (λ (j : Judged). judgedAnswer j (namesOf input)) f)
+      listed-bad {n} f = listed {a = Refused (At 8 n)} (answer ∙ ap (λ (j : Judged). judgedAnswer (rulesOf draftPlain) j (namesOf input)) f)
 
       pub good : judgedFrom 0 (namesOf input) ≡ Fine → Good input
       good f = record { ends = e; few = few-names input h; fine = f }
 
-  pub listed-good : length input ≤ 4096 → Good input → listedOf input ≡ linesOf (namesOf input) ++ totalsText (length (namesOf input)) (totalOf (putsOf (namesOf input)))
+  pub listed-good : length input ≤ 4096 → Good input → listedOf input ≡ linesOf (namesOf input) ++ totalsText (length (namesOf input)) (totalOf (putsOf (rulesOf draftPlain) (namesOf input)))
   unfolding answerText judgedAnswer
-  listed-good h g = listed h {a = Written (length (namesOf input)) (totalOf (putsOf (namesOf input)))} (answer h (g .ends) ∙ ap (λ (j : Judged). judgedAnswer j (namesOf input)) (g .fine))
+  listed-good h g = listed h {a = Written (length (namesOf input)) (totalOf (putsOf (rulesOf draftPlain) (namesOf input)))} (answer h (g .ends) ∙ ap (λ (j : Judged). judgedAnswer (rulesOf draftPlain) j (namesOf input)) (g .fine))
 
 -- the lines, then the totals
 module _ (input : List ℕ) (h : length input ≤ 4096) (g : Good input) (w : Page) (room : HasRoom (listedOf input) w) where
   totals : List ℕ
-  totals = totalsText (length (namesOf input)) (totalOf (putsOf (namesOf input)))
+  totals = totalsText (length (namesOf input)) (totalOf (putsOf (rulesOf draftPlain) (namesOf input)))
 
   all : listedOf input ≡ linesOf (namesOf input) ++ totals
   unfolding totals
@@ -85,7 +86,7 @@ module _ (input : List ℕ) (h : length input ≤ 4096) (g : Good input) (w : Pa
   pub lines-room : HasRoom (linesOf (namesOf input)) w
   lines-room = first-room (linesOf (namesOf input)) totals w all-room
 
-  module _ {n t : ℕ} (p : n ≡ length (namesOf input)) (q : t ≡ totalOf (putsOf (namesOf input))) {v : Page} (d : v ≡ said (linesOf (namesOf input)) w) where
+  module _ {n t : ℕ} (p : n ≡ length (namesOf input)) (q : t ≡ totalOf (putsOf (rulesOf draftPlain) (namesOf input))) {v : Page} (d : v ≡ said (linesOf (namesOf input)) w) where
     named : totals ≡ totalsText n t
     unfolding totals
     named = rw (p, q)
@@ -98,21 +99,21 @@ module _ (input : List ℕ) (h : length input ≤ 4096) (g : Good input) (w : Pa
 
 -- The writer's own answer, where the directory has its length and there is room
 
-module _ (names : List (List ℕ)) (dir bytes : List ℕ) (h : totalOf (putsOf names) ≤ length bytes) where
-  judged-answer : (j : Judged) → judgedOf j names dir bytes .answer ≡ judgedAnswer j names
+module _ (rules : Rules) (names : List (List ℕ)) (dir bytes : List ℕ) (h : totalOf (putsOf rules names) ≤ length bytes) where
+  judged-answer : (j : Judged) → judgedOf rules j names dir bytes .answer ≡ judgedAnswer rules j names
   unfolding judgedOf laidOf judgedAnswer
   judged-answer Fine = ap (λ (x : Writing). x .answer) (pick-true _ _ (le-leb _ _ h))
   judged-answer (Bad n) = refl
 
-pub answer-written : (input dir bytes : List ℕ) → length dir ≡ 2580 → totalOf (putsOf (namesOf input)) ≤ length bytes → writeOf input dir bytes .answer ≡ answerOf input
+pub answer-written : (rules : Rules) (input dir bytes : List ℕ) → length dir ≡ 2580 → totalOf (putsOf rules (namesOf input)) ≤ length bytes → writeOf rules input dir bytes .answer ≡ answerOf rules input
 unfolding writeOf answerOf
-answer-written input dir bytes e h =
+answer-written rules input dir bytes e h =
     ap (λ (x : Writing). x .answer) (pick-true _ _ (eq-eqb _ _ e))
     ∙ by-test (countable input)
-    (λ t. ap (λ (x : Writing). x .answer) (pick-true _ _ t) ∙ judged-answer (namesOf input) dir bytes h (judgedFrom 0 (namesOf input)) ∙ sym (pick-true _ _ t))
+    (λ t. ap (λ (x : Writing). x .answer) (pick-true _ _ t) ∙ judged-answer rules (namesOf input) dir bytes h (judgedFrom 0 (namesOf input)) ∙ sym (pick-true _ _ t))
     (λ t. ap (λ (x : Writing). x .answer) (pick-false _ _ t) ∙ sym (pick-false _ _ t))
 
 -- so a listing is what is said of the writer's answer
-pub listing-written : (input dir bytes : List ℕ) → length dir ≡ 2580 → totalOf (putsOf (namesOf input)) ≤ length bytes → listingOf input ≡ answerText (namesOf input) (writeOf input dir bytes .answer)
+pub listing-written : (rules : Rules) (input dir bytes : List ℕ) → length dir ≡ 2580 → totalOf (putsOf rules (namesOf input)) ≤ length bytes → listingOf rules input ≡ answerText (namesOf input) (writeOf rules input dir bytes .answer)
 unfolding listingOf
-listing-written input dir bytes e h = ap (answerText (namesOf input)) (sym (answer-written input dir bytes e h))
+listing-written rules input dir bytes e h = ap (answerText (namesOf input)) (sym (answer-written rules input dir bytes e h))

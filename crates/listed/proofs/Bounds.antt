@@ -9,6 +9,7 @@ use lib.ListN.{length, length-append}
 use Rattle.base.proofs.Choice.{pick-true, pick-false}
 use Rattle.base.proofs.Numbers.{lt-or-ge}
 use Rattle.block.specs.declared.Refusal.the-variants.{Plain}
+use Rattle.tokens.specs.Types.{draftPlain, Rules, rulesOf}
 use Rattle.writing.specs.declared.WriteAnswer.{WriteAnswer}
 use Rattle.writing.specs.declared.WriteAnswer.the-variants.{Written, Refused}
 use Rattle.inputs.specs.Inputs.{namesAfter, namesOf}
@@ -23,14 +24,14 @@ unfolding answerText linesOf
 answer-short names (Written n b) = omega (arith, length-append (linesFrom 0 [] names) (totalsText n b), lines-short 0 [] names, totals-short n b)
 answer-short names (Refused r) = omega (arith, refusal-short r)
 
-listing-short : (input : List ℕ) → length (listingOf input) ≤ 31 * length input + 100
+listing-short : (rules : Rules) (input : List ℕ) → length (listingOf rules input) ≤ 31 * length input + 100
 unfolding listingOf namesOf
-listing-short input = omega (arith, answer-short (namesAfter [] input) (answerOf input), weight-names [] input)
+listing-short rules input = omega (arith, answer-short (namesAfter [] input) (answerOf rules input), weight-names [] input)
 
 -- the room that every input's listing has enough of
 pub listed-short : (input : List ℕ) → length (listedOf input) ≤ 131072
 unfolding listedOf
 listed-short input = ⊎-elim
-    (λ l. omega (arith, ap length (pick-true (refusalText (Plain 9)) (listingOf input) (lt-ltb _ _ l)), refusal-short (Plain 9)))
-    (λ l. omega (arith, ap length (pick-false (refusalText (Plain 9)) (listingOf input) (le-ltb _ _ l)), listing-short input))
+    (λ l. omega (arith, ap length (pick-true (refusalText (Plain 9)) (listingOf (rulesOf draftPlain) input) (lt-ltb _ _ l)), refusal-short (Plain 9)))
+    (λ l. omega (arith, ap length (pick-false (refusalText (Plain 9)) (listingOf (rulesOf draftPlain) input) (le-ltb _ _ l)), listing-short (rulesOf draftPlain) input))
     (lt-or-ge 4096 (length input))

@@ -17,7 +17,7 @@ use Rattle.choices.specs.Choices.{leanString, leanChar, byRise, leanDigits, byR
 use Rattle.references.specs.References.{anew, referenceOf, leansOn}
 use Rattle.laying.specs.Puts.{share, contentOf, joined, startIn, totalOf}
 use Rattle.inputs.specs.Inputs.{namesAfter, namesOf, ended, goodName, judgedFrom}
-use Rattle.tokens.specs.Types.{typeNumber}
+use Rattle.tokens.specs.Types.{numbersOf, typeNumber}
 use Rattle.tokenputs.specs.TokenPuts.{pieceType, choiceType, choicePuts, tokenPuts}
 use Rattle.valueputs.specs.ValuePuts.{piecePuts, valuePuts}
 use Rattle.nameputs.specs.NamePuts.{headPuts, referencePuts, namePuts, putsFrom, putsOf}
@@ -53,5 +53,5 @@ pub worked : listedOf run ∷ listedOf [] ∷ listedOf (65 ∷ 10 ∷ 32 ∷ 10 
     ∷ (114 ∷ 101 ∷ 102 ∷ 117 ∷ 115 ∷ 101 ∷ 100 ∷ 32 ∷ 56 ∷ 32 ∷ 97 ∷ 116 ∷ 32 ∷ 49 ∷ 10 ∷ [])
     ∷ (114 ∷ 101 ∷ 102 ∷ 117 ∷ 115 ∷ 101 ∷ 100 ∷ 32 ∷ 49 ∷ 50 ∷ 10 ∷ [])
     ∷ []
-unfolding pick part low padded countWithin digitCount printed isDigit every isAllowed valueOf valueFrom fourBytes spanOf runClass runEnd runLimit runAt cutAt textPiece numberPiece pieceAt same riseOf leanString leanChar byRise leanDigits byRise0 leanDigits0 lean choiceAt choicesFrom choicesOf anew referenceOf leansOn share contentOf joined startIn totalOf namesAfter namesOf ended goodName judgedFrom typeNumber pieceType choiceType piecePuts valuePuts choicePuts tokenPuts headPuts referencePuts namePuts putsFrom putsOf countable refusedWord atWord stringWord charWord digitsWord digits0Word deltaWord delta0Word matchWord endWord dupWord diffWord namesWord bytesWord slash newline stringText charText paddedText pieceText choiceText tokensText referenceText nameText lineOf linesFrom linesOf refusalText totalsText answerText judgedAnswer answerOf listingOf listedOf
+unfolding pick part low padded countWithin digitCount printed isDigit every isAllowed valueOf valueFrom fourBytes spanOf runClass runEnd runLimit runAt cutAt textPiece numberPiece pieceAt same riseOf leanString leanChar byRise leanDigits byRise0 leanDigits0 lean choiceAt choicesFrom choicesOf anew referenceOf leansOn share contentOf joined startIn totalOf namesAfter namesOf ended goodName judgedFrom numbersOf typeNumber pieceType choiceType piecePuts valuePuts choicePuts tokenPuts headPuts referencePuts namePuts putsFrom putsOf countable refusedWord atWord stringWord charWord digitsWord digits0Word deltaWord delta0Word matchWord endWord dupWord diffWord namesWord bytesWord slash newline stringText charText paddedText pieceText choiceText tokensText referenceText nameText lineOf linesFrom linesOf refusalText totalsText answerText judgedAnswer answerOf listingOf listedOf
 worked = refl

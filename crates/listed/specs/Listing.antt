@@ -7,6 +7,7 @@ use lib.Dec.{ltb}
 use lib.ListN.{length}
 use Rattle.base.specs.Choice.{pick}
 use Rattle.block.specs.declared.Refusal.the-variants.{Plain, At}
+use Rattle.tokens.specs.Types.{draftPlain, Rules, rulesOf}
 use Rattle.laying.specs.Puts.{totalOf}
 use Rattle.inputs.specs.declared.Judged.{Judged}
 use Rattle.inputs.specs.declared.Judged.the-variants.{Fine, Bad}
@@ -24,20 +25,20 @@ answerText names (Written n b) = linesOf names ++ totalsText n b
 answerText names (Refused r) = refusalText r
 
 -- the writer's answer where there is room for the bytes
-unfoldable pub judgedAnswer : Judged → List (List ℕ) → WriteAnswer
-judgedAnswer Fine names = Written (length names) (totalOf (putsOf names))
-judgedAnswer (Bad n) names = Refused (At 8 n)
+unfoldable pub judgedAnswer : Rules → Judged → List (List ℕ) → WriteAnswer
+judgedAnswer rules Fine names = Written (length names) (totalOf (putsOf rules names))
+judgedAnswer rules (Bad n) names = Refused (At 8 n)
 
-unfoldable pub answerOf : List ℕ → WriteAnswer
-answerOf input = pick (countable input) (judgedAnswer (judgedFrom 0 (namesOf input)) (namesOf input)) (Refused (Plain 12))
+unfoldable pub answerOf : Rules → List ℕ → WriteAnswer
+answerOf rules input = pick (countable input) (judgedAnswer rules (judgedFrom 0 (namesOf input)) (namesOf input)) (Refused (Plain 12))
 
 -- the listing of an input
-unfoldable pub listingOf : List ℕ → List ℕ
-listingOf input = answerText (namesOf input) (answerOf input)
+unfoldable pub listingOf : Rules → List ℕ → List ℕ
+listingOf rules input = answerText (namesOf input) (answerOf rules input)
 
--- "at most 4,096 bytes (more prints "refused 9")"
+-- "at most 4,096 bytes (more prints "refused 9")"; it lists what the draft's plain setting writes
 unfoldable pub listedOf : List ℕ → List ℕ
-listedOf input = pick (ltb 4096 (length input)) (refusalText (Plain 9)) (listingOf input)
+listedOf input = pick (ltb 4096 (length input)) (refusalText (Plain 9)) (listingOf (rulesOf draftPlain) input)
 
 -- an input of good names
 pub record Good (input : List ℕ) : Type 0 where

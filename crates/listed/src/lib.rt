@@ -4,6 +4,7 @@ ghost use Prim.Native.Nat.{_≤_};
 ghost use lib.ListN.{length};
 ghost use Rattle.base.specs.Memory.{written};
 ghost use Rattle.classes.specs.Classes.{classTable};
+ghost use Rattle.tokens.specs.Types.{draftPlain, rulesOf};
 ghost use Rattle.laying.specs.Puts.{totalOf};
 ghost use Rattle.inputs.specs.Inputs.{namesOf};
 ghost use Rattle.nameputs.specs.NamePuts.{putsOf};
@@ -11,7 +12,10 @@ ghost use Rattle.pages.specs.Page.{page, said, HasRoom};
 ghost use Rattle.listed.specs.Listing.{listedOf, Good};
 ghost use Rattle.base.specs.Lent.{lent, left};
 use block::Block;
+use block::Kind;
+use block::Mode;
 use block::Refusal;
+use block::Setting;
 use inputs::Judged;
 use laying::Pass;
 
@@ -22,11 +26,15 @@ const MOST: usize = 4096;
 fn total(table: &[u8; 256], input: &[u8]) -> u32
     requires { ⌜ now table ≡ classTable ⌝ }
     requires { ⌜ Good (now input) ⌝ }
-    ensures { λ r. ⌜ r ≡ totalOf (putsOf (namesOf (lent input))) ⌝ }
+    ensures { λ r. ⌜ r ≡ totalOf (putsOf (rulesOf draftPlain) (namesOf (lent input))) ⌝ }
 {
+    let set = Setting {
+        kind: Kind::Draft,
+        mode: Mode::Plain,
+    };
     let mut directory = [0u32; Block::DIRECTORY];
     let mut bytes = [0u8; 1];
-    nameputs::put_names(Pass::Total, &mut directory, &mut bytes, table, input)
+    nameputs::put_names(set, Pass::Total, &mut directory, &mut bytes, table, input)
 }
 
 fn put_listing(out: &mut [u8], table: &[u8; 256], input: &[u8]) -> usize

@@ -6,7 +6,7 @@ use Rattle.spans.specs.Spans.{fourBytes}
 use Rattle.block.specs.Block.{spanOf}
 use Rattle.spans.specs.declared.Distance.{Distance}
 use Rattle.block.specs.Streams.{dupStream, diffStream}
-use Rattle.tokens.specs.Types.{dupNumber, diffNumber}
+use Rattle.tokens.specs.Types.{Rules}
 use Rattle.references.specs.declared.Reference.the-variants.{Dup, Diff}
 use Rattle.choices.specs.Choices.{choicesOf}
 use Rattle.references.specs.References.{referenceOf, leansOn}
@@ -27,20 +27,20 @@ pub head-ran : (pass : Pass) (k i d : ℕ) (w u v : World) → u ≡ stepOf pass
 unfolding headPuts runOf
 head-ran pass k i d w u v e f = f ∙ ap (stepOf pass (put (spanOf 0 i) (fourBytes d))) e
 
-pub dup-puts : (n : ℕ) (before s : List ℕ) (d : Distance) → referenceOf n before s ≡ Dup d → namePuts n before s ≡ headPuts dupNumber dupStream (d .0)
+pub dup-puts : (rules : Rules) (n : ℕ) (before s : List ℕ) (d : Distance) → referenceOf n before s ≡ Dup d → namePuts rules n before s ≡ headPuts (rules .numbers .dup) dupStream (d .0)
 unfolding namePuts referencePuts
-dup-puts n before s d e = rw e
+dup-puts rules n before s d e = rw e
 
-pub diff-puts : (n : ℕ) (before s : List ℕ) (d : Distance) → referenceOf n before s ≡ Diff d → namePuts n before s ≡ headPuts diffNumber diffStream (d .0) ++ tokenPuts s 1 (choicesOf (leansOn n before) s)
+pub diff-puts : (rules : Rules) (n : ℕ) (before s : List ℕ) (d : Distance) → referenceOf n before s ≡ Diff d → namePuts rules n before s ≡ headPuts (rules .numbers .diff) diffStream (d .0) ++ tokenPuts rules s 1 (choicesOf (leansOn n before) s)
 unfolding namePuts referencePuts
-diff-puts n before s d e = rw e
+diff-puts rules n before s d e = rw e
 
 -- The names
 
-pub puts-none : (n : ℕ) (before : List ℕ) (names : List (List ℕ)) → names ≡ [] → putsFrom n before names ≡ []
+pub puts-none : (rules : Rules) (n : ℕ) (before : List ℕ) (names : List (List ℕ)) → names ≡ [] → putsFrom rules n before names ≡ []
 unfolding putsFrom
-puts-none n before names e = rw e
+puts-none rules n before names e = rw e
 
-pub puts-more : (n : ℕ) (before : List ℕ) (names : List (List ℕ)) (s : List ℕ) (ss : List (List ℕ)) → names ≡ s ∷ ss → putsFrom n before names ≡ namePuts n before s ++ putsFrom (n + 1) s ss
+pub puts-more : (rules : Rules) (n : ℕ) (before : List ℕ) (names : List (List ℕ)) (s : List ℕ) (ss : List (List ℕ)) → names ≡ s ∷ ss → putsFrom rules n before names ≡ namePuts rules n before s ++ putsFrom rules (n + 1) s ss
 unfolding putsFrom
-puts-more n before names s ss e = rw e
+puts-more rules n before names s ss e = rw e

@@ -4,10 +4,12 @@ ghost use mathlib.Core.Bool.{true};
 ghost use Prim.Native.Nat.{_≤_, _<_, _+_};
 ghost use lib.ListN.{length};
 ghost use Rattle.classes.specs.Classes.{classTable};
+ghost use Rattle.tokens.specs.Types.{rulesOf};
 ghost use Rattle.laying.specs.Passes.{world, runOf, Roomy};
 ghost use Rattle.inputs.specs.Inputs.{namesOf, ended};
 ghost use Rattle.nameputs.specs.NamePuts.{headPuts, diffPuts, namePuts, putsOf};
 ghost use Rattle.base.specs.Lent.{lent, left};
+use block::Setting;
 use block::stream;
 use laying::Pass;
 use references::Reference;
@@ -35,6 +37,7 @@ fn put_head(
 }
 
 fn put_diff(
+    set: Setting,
     pass: Pass,
     total: u32,
     directory: &mut [u32],
@@ -45,22 +48,25 @@ fn put_diff(
     distance: Distance,
 ) -> u32
     requires { ⌜ now table ≡ classTable ⌝ }
-    requires { ⌜ Roomy pass (diffPuts (distance .0) (now before) (now name)) (world total (now directory) (now bytes)) ⌝ }
-    ensures { λ r. ⌜ world r (left directory) (left bytes) ≡ runOf pass (diffPuts (distance .0) (lent before) (lent name)) (world total (lent directory) (lent bytes)) ⌝ }
+    requires { ⌜ Roomy pass (diffPuts (rulesOf set) (distance .0) (now before) (now name)) (world total (now directory) (now bytes)) ⌝ }
+    ensures { λ r. ⌜ world r (left directory) (left bytes) ≡ runOf pass (diffPuts (rulesOf set) (distance .0) (lent before) (lent name)) (world total (lent directory) (lent bytes)) ⌝ }
 {
+    let kind = set.kind;
+    let number = tokens::diff_number(kind);
     let next = put_head(
         pass,
         total,
         directory,
         bytes,
-        tokens::DIFF,
+        number,
         stream::DIFF,
         distance,
     );
-    tokenputs::put_tokens(pass, next, directory, bytes, table, before, name)
+    tokenputs::put_tokens(set, pass, next, directory, bytes, table, before, name)
 }
 
 fn put_name(
+    set: Setting,
     pass: Pass,
     total: u32,
     directory: &mut [u32],
@@ -71,12 +77,17 @@ fn put_name(
     name: &[u8],
 ) -> u32
     requires { ⌜ now table ≡ classTable ⌝ }
-    requires { ⌜ Roomy pass (namePuts n (now before) (now name)) (world total (now directory) (now bytes)) ⌝ }
-    ensures { λ r. ⌜ world r (left directory) (left bytes) ≡ runOf pass (namePuts n (lent before) (lent name)) (world total (lent directory) (lent bytes)) ⌝ }
+    requires { ⌜ Roomy pass (namePuts (rulesOf set) n (now before) (now name)) (world total (now directory) (now bytes)) ⌝ }
+    ensures { λ r. ⌜ world r (left directory) (left bytes) ≡ runOf pass (namePuts (rulesOf set) n (lent before) (lent name)) (world total (lent directory) (lent bytes)) ⌝ }
 {
     match references::reference_of(n, before, name) {
-        Reference::Dup(d) => put_head(pass, total, directory, bytes, tokens::DUP, stream::DUP, d),
+        Reference::Dup(d) => {
+            let kind = set.kind;
+            let number = tokens::dup_number(kind);
+            put_head(pass, total, directory, bytes, number, stream::DUP, d)
+        }
         Reference::Diff(d) => put_diff(
+            set,
             pass,
             total,
             directory,
@@ -91,6 +102,7 @@ fn put_name(
 
 // All names, and the bytes that they put.
 pub fn put_names(
+    set: Setting,
     pass: Pass,
     directory: &mut [u32],
     bytes: &mut [u8],
@@ -99,8 +111,8 @@ pub fn put_names(
 ) -> u32
     requires { ⌜ now table ≡ classTable ⌝ }
     requires { ⌜ (ended (now input) ≡ true) × (length (namesOf (now input)) ≤ 65536) ⌝ }
-    requires { ⌜ Roomy pass (putsOf (namesOf (now input))) (world 0 (now directory) (now bytes)) ⌝ }
-    ensures { λ r. ⌜ world r (left directory) (left bytes) ≡ runOf pass (putsOf (namesOf (lent input))) (world 0 (lent directory) (lent bytes)) ⌝ }
+    requires { ⌜ Roomy pass (putsOf (rulesOf set) (namesOf (now input))) (world 0 (now directory) (now bytes)) ⌝ }
+    ensures { λ r. ⌜ world r (left directory) (left bytes) ≡ runOf pass (putsOf (rulesOf set) (namesOf (lent input))) (world 0 (lent directory) (lent bytes)) ⌝ }
 {
     let mut total: u32 = 0;
     let mut n: u32 = 0;
@@ -110,6 +122,7 @@ pub fn put_names(
     while start < input.len() {
         let end = inputs::name_end(input, start);
         total = put_name(
+            set,
             pass,
             total,
             directory,

@@ -9,21 +9,23 @@ use Rattle.base.proofs.Memory.{length-written}
 use Rattle.base.proofs.Below.{take-written}
 use Rattle.block.specs.Block.{spanOf, cursorOf}
 use Rattle.tokens.proofs.Laws.{bytes-same}
+use Rattle.tokens.specs.Types.{Rules}
 use Rattle.kept.proofs.Frame as frame
 use Rattle.kept.specs.Tables.{rowSize}
 use Rattle.sources.specs.Source.{source, earlier}
+use Rattle.names.specs.Names.{typeIn}
 use Rattle.repeats.specs.Sound.{Rows}
 use Rattle.steps.proofs.Laws.{Known, given}
 use Rattle.steps.proofs.Frame.{byte-in-same, step-frame, rows-same}
 use Rattle.names.proofs.Growing.{Alike}
 
-pub record Stays (bytes dir cur cur' text text' rows rows' : List ℕ) (first count used q : ℕ) : Type 0 where
+pub record Stays (rules : Rules) (bytes dir cur cur' text text' rows rows' : List ℕ) (first count used q : ℕ) : Type 0 where
   pub lengthText : length text' ≡ length text
   pub lengthRows : length rows' ≡ length rows
   pub known : Rows used (earlier text' rows' first count)
-  pub alike : Alike (source bytes dir cur) (source bytes dir cur') (earlier text rows first count) (earlier text' rows' first count) q
+  pub alike : Alike (source rules bytes dir cur) (source rules bytes dir cur') (earlier text rows first count) (earlier text' rows' first count) q
 
-module _ (bytes dir cur cur' text text' rows rows' : List ℕ) (first count used q at k : ℕ) (xs ys : List ℕ)
+module _ (rules : Rules) (bytes dir cur cur' text text' rows rows' : List ℕ) (first count used q at k : ℕ) (xs ys : List ℕ)
     (texts : text' ≡ written text at xs) (table : rows' ≡ written rows (rowSize * k) ys)
     (above : used ≤ at) (behind : first + count ≤ k) (room : at + length xs ≤ length text) (rowed : rowSize * k + length ys ≤ length rows) where
   take-same : take used text ≡ take used text'
@@ -35,9 +37,9 @@ module _ (bytes dir cur cur' text text' rows rows' : List ℕ) (first count used
 
   -- where the cursors of position q and of those behind it stay
   pub stays : Rows used (earlier text rows first count)
-      → ((j : ℕ) → q ≤ j → j ≤ 128 → Known (source bytes dir cur) (earlier text rows first count) used j)
+      → ((j : ℕ) → q ≤ j → j ≤ 128 → Known (source rules bytes dir cur) (earlier text rows first count) used j)
       → ((j i : ℕ) → q ≤ j → i ≤ 9 → cursorOf cur (spanOf j i) ≡ cursorOf cur' (spanOf j i))
-      → Stays bytes dir cur cur' text text' rows rows' first count used q
+      → Stays rules bytes dir cur cur' text text' rows rows' first count used q
   stays r known same =
       let a : length text' ≡ length text = ap length texts ∙ length-written text at xs room in
       let b : length rows' ≡ length rows = ap length table ∙ length-written rows (rowSize * k) ys rowed in
@@ -49,11 +51,11 @@ module _ (bytes dir cur cur' text text' rows rows' : List ℕ) (first count used
             record {
               steps =
                   λ j h l.
-                  sym (step-frame bytes dir cur cur' text text' rows rows' first count used j (known j h l .rows) (known j h l .first) (λ i y. same j i h y) take-same rows-alike);
-              types = λ j h l. sym (byte-in-same bytes dir cur cur' j (λ i y. same j i h y) 0 (omega arith));
+                  sym (step-frame rules bytes dir cur cur' text text' rows rows' first count used j (known j h l .rows) (known j h l .first) (λ i y. same j i h y) take-same rows-alike);
+              types = λ j h l. ap (typeIn (rules .numbers)) (sym (byte-in-same rules bytes dir cur cur' j (λ i y. same j i h y) 0 (omega arith)));
               bytes =
                   λ j h l u v x.
-                  let w = given (source bytes dir cur) (earlier text rows first count) used j (known j h l) x in
+                  let w = given (source rules bytes dir cur) (earlier text rows first count) used j (known j h l) x in
                   sym (bytes-same bytes text text' used u (w .inside) (w .below) take-same);
             };
       }

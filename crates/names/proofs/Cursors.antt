@@ -18,14 +18,14 @@ use Rattle.block.specs.Streams.{digits0Stream, dzlenStream}
 use Rattle.tokens.specs.declared.TokenType.{TokenType}
 use Rattle.tokens.specs.declared.TokenType.the-variants as type
 use Rattle.tokens.specs.declared.Token.{Token}
-use Rattle.tokens.specs.Types.{typeOf}
+use Rattle.tokens.specs.Types.{Rules, typeOf}
 use Rattle.sources.specs.Source.{Source, source, Earlier, byteIn, fourIn}
 use Rattle.sources.proofs.Cases.{Between}
 use Rattle.values.specs.declared.Step.the-variants as step
 use Rattle.steps.specs.Steps.{valueStep, typedStep, stepAt}
 use Rattle.steps.proofs.Moves.{Moved, value-moved}
 use Rattle.moving.specs.Moves.{past, valuePast}
-use Rattle.names.specs.Names.{typeIn}
+use Rattle.names.specs.Names.{typeIn, typeAt}
 
 never-refused : {t : Token} {c : Cursor} {r : ℕ} → step.Refused r ≡ step.Got t c → ⊥
 never-refused q = let z : _≡_ {A = ℕ} 0 1 = cc in omega arith
@@ -48,12 +48,12 @@ module _ (s : Source) (p i : ℕ) where
       let f = four-found (s .bytes) (cursorOf (s .cur) (spanOf p i)) (endOf (s .dir) (spanOf p i)) q in
       (ap (λ (k : Cursor). k .0) (f .past), record { low = omega arith; high = omega (arith, f .room) })
 
-module _ (bytes dir cur : List ℕ) (o : Open bytes dir cur) (p : ℕ) (h : p ≤ 128) where
+module _ (rules : Rules) (bytes dir cur : List ℕ) (o : Open bytes dir cur) (p : ℕ) (h : p ≤ 128) where
   -- past a type
-  pub open-typed : {b : ℕ} {c : Cursor} → byteIn (source bytes dir cur) p 0 ≡ byte.Value b c → Open bytes dir (past cur (spanOf p 0) 1)
+  pub open-typed : {b : ℕ} {c : Cursor} → byteIn (source rules bytes dir cur) p 0 ≡ byte.Value b c → Open bytes dir (past cur (spanOf p 0) 1)
   unfolding past
   open-typed q =
-      let r = byte-reach (source bytes dir cur) p 0 q .1 in
+      let r = byte-reach (source rules bytes dir cur) p 0 q .1 in
       open-set bytes dir cur (spanOf p 0) (cursorOf cur (spanOf p 0) + 1) o (span-below p 0 h (omega arith)) (r .low) (r .high)
 
 -- cursors of which those of position p's values are as they were
@@ -61,12 +61,12 @@ record Typed (bytes dir cur now : List ℕ) (p : ℕ) : Type 0 where
   opened : Open bytes dir now
   same : (i : ℕ) → 1 ≤ i → i ≤ 9 → cursorOf now (spanOf p i) ≡ cursorOf cur (spanOf p i)
 
-module _ (bytes dir cur now : List ℕ) (p : ℕ) (h : p ≤ 128) (w : Typed bytes dir cur now p) where
-  value-set : (i c : ℕ) → 1 ≤ i → i ≤ 9 → Between (source bytes dir cur) p i c → Open bytes dir (set now (spanOf p i) c)
+module _ (rules : Rules) (bytes dir cur now : List ℕ) (p : ℕ) (h : p ≤ 128) (w : Typed bytes dir cur now p) where
+  value-set : (i c : ℕ) → 1 ≤ i → i ≤ 9 → Between (source rules bytes dir cur) p i c → Open bytes dir (set now (spanOf p i) c)
   value-set i c k l r =
       open-set bytes dir now (spanOf p i) c (w .opened) (span-below p i h l) (omega (arith, w .same i k l, r .0)) (r .1)
 
-  width-set : (c : ℕ) → Between (source bytes dir cur) p digits0Stream c → cursorOf cur (spanOf p dzlenStream) + 1 ≤ endOf dir (spanOf p dzlenStream)
+  width-set : (c : ℕ) → Between (source rules bytes dir cur) p digits0Stream c → cursorOf cur (spanOf p dzlenStream) + 1 ≤ endOf dir (spanOf p dzlenStream)
       → Open bytes dir (past (set now (spanOf p digits0Stream) c) (spanOf p dzlenStream) 1)
   unfolding past
   width-set c r k =
@@ -78,7 +78,7 @@ module _ (bytes dir cur now : List ℕ) (p : ℕ) (h : p ≤ 128) (w : Typed byt
       (value-set 3 c (omega arith) (omega arith) r) (span-below p dzlenStream h (omega arith)) (omega arith) (omega arith)
 
   -- past a value
-  open-value : (ty : TokenType) (c : ℕ) → Moved (source bytes dir cur) p c ty → Open bytes dir (valuePast ty p c now)
+  open-value : (ty : TokenType) (c : ℕ) → Moved (source rules bytes dir cur) p c ty → Open bytes dir (valuePast ty p c now)
   unfolding valuePast
   open-value type.String c m = value-set 1 c (omega arith) (omega arith) m
   open-value type.Char c m = value-set 2 c (omega arith) (omega arith) m
@@ -90,39 +90,39 @@ module _ (bytes dir cur now : List ℕ) (p : ℕ) (h : p ≤ 128) (w : Typed byt
   open-value type.End c m = w .opened
   open-value type.Other c m = w .opened
 
-module _ (bytes dir cur : List ℕ) (o : Open bytes dir cur) (e : Earlier) (p : ℕ) (h : p ≤ 128) where
-  typed : {b : ℕ} {c : Cursor} → byteIn (source bytes dir cur) p 0 ≡ byte.Value b c → Typed bytes dir cur (past cur (spanOf p 0) 1) p
+module _ (rules : Rules) (bytes dir cur : List ℕ) (o : Open bytes dir cur) (e : Earlier) (p : ℕ) (h : p ≤ 128) where
+  typed : {b : ℕ} {c : Cursor} → byteIn (source rules bytes dir cur) p 0 ≡ byte.Value b c → Typed bytes dir cur (past cur (spanOf p 0) 1) p
   unfolding past
   typed q =
       record {
-        opened = open-typed bytes dir cur o p h q;
+        opened = open-typed rules bytes dir cur o p h q;
         same =
             λ i k l. cursor-set-other cur (spanOf p 0) (cursorOf cur (spanOf p 0) + 1) (spanOf p i)
             (λ z. let y = span-stream p i p 0 l (omega arith) z in omega arith);
       }
 
-  step-open : {t : Token} {c : Cursor} (n : NextByte) → byteIn (source bytes dir cur) p 0 ≡ n → typedStep (source bytes dir cur) e p n ≡ step.Got t c
-      → Open bytes dir (valuePast (typeIn n) p (c .0) (past cur (spanOf p 0) 1))
+  step-open : {t : Token} {c : Cursor} (n : NextByte) → byteIn (source rules bytes dir cur) p 0 ≡ n → typedStep (source rules bytes dir cur) e p n ≡ step.Got t c
+      → Open bytes dir (valuePast (typeIn (rules .numbers) n) p (c .0) (past cur (spanOf p 0) 1))
   unfolding typedStep typeIn
   step-open {t} {c} (byte.Value b k) q r =
-      let v = valueStep (source bytes dir cur) e p k (typeOf b) in
-      by-test (barred p (typeOf b))
+      let v = valueStep (source rules bytes dir cur) e p k (typeOf (rules .numbers) b) in
+      by-test (barred p (typeOf (rules .numbers) b))
       (λ y. absurd (never-refused (sym (pick-true (step.Refused 7) v y) ∙ r)))
-      (λ y. open-value bytes dir cur (past cur (spanOf p 0) 1) p h (typed q) (typeOf b) (c .0) (value-moved (source bytes dir cur) e p k (typeOf b) (sym (pick-false (step.Refused 7) v y) ∙ r)))
+      (λ y. open-value rules bytes dir cur (past cur (spanOf p 0) 1) p h (typed q) (typeOf (rules .numbers) b) (c .0) (value-moved (source rules bytes dir cur) e p k (typeOf (rules .numbers) b) (sym (pick-false (step.Refused 7) v y) ∙ r)))
   step-open byte.Short q r = absurd (never-refused r)
 
   -- past a token
-  pub open-token : {t : Token} {c : Cursor} → stepAt (source bytes dir cur) e p ≡ step.Got t c
-      → Open bytes dir (valuePast (typeIn (byteIn (source bytes dir cur) p 0)) p (c .0) (past cur (spanOf p 0) 1))
+  pub open-token : {t : Token} {c : Cursor} → stepAt (source rules bytes dir cur) e p ≡ step.Got t c
+      → Open bytes dir (valuePast (typeAt (source rules bytes dir cur) p) p (c .0) (past cur (spanOf p 0) 1))
   unfolding stepAt
-  open-token q = step-open (byteIn (source bytes dir cur) p 0) refl q
+  open-token q = step-open (byteIn (source rules bytes dir cur) p 0) refl q
 
-  end-open : (n : NextByte) → byteIn (source bytes dir cur) p 0 ≡ n → typedStep (source bytes dir cur) e p n ≡ step.End → Open bytes dir (past cur (spanOf p 0) 1)
+  end-open : (n : NextByte) → byteIn (source rules bytes dir cur) p 0 ≡ n → typedStep (source rules bytes dir cur) e p n ≡ step.End → Open bytes dir (past cur (spanOf p 0) 1)
   unfolding typedStep
-  end-open (byte.Value b k) q r = open-typed bytes dir cur o p h q
+  end-open (byte.Value b k) q r = open-typed rules bytes dir cur o p h q
   end-open byte.Short q r = let z : _≡_ {A = ℕ} 0 1 = cc in absurd (omega arith)
 
   -- past an END
-  pub open-ended : stepAt (source bytes dir cur) e p ≡ step.End → Open bytes dir (past cur (spanOf p 0) 1)
+  pub open-ended : stepAt (source rules bytes dir cur) e p ≡ step.End → Open bytes dir (past cur (spanOf p 0) 1)
   unfolding stepAt
-  open-ended q = end-open (byteIn (source bytes dir cur) p 0) refl q
+  open-ended q = end-open (byteIn (source rules bytes dir cur) p 0) refl q

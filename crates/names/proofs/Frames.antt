@@ -11,13 +11,14 @@ use Rattle.block.specs.Block.{spanOf, cursorOf}
 use Rattle.block.specs.Open.{Open}
 use Rattle.tokens.specs.Tokens.{bytesOf}
 use Rattle.tokens.specs.declared.Token.{Token}
+use Rattle.tokens.specs.Types.{Rules}
 use Rattle.values.specs.declared.Step.{Step}
 use Rattle.values.specs.declared.Step.the-variants as step
 use Rattle.sources.specs.Source.{Source, source, Earlier, byteIn}
 use Rattle.steps.specs.Steps.{stepAt}
 use Rattle.steps.proofs.Frame.{byte-in-same, step-cursors}
 use Rattle.names.specs.declared.Judged.the-variants as judged
-use Rattle.names.specs.Names.{Draft, draft, Named, named, refused, typeIn, grown, ended, printable, onward, nameFrom, nameOf}
+use Rattle.names.specs.Names.{Draft, draft, Named, named, refused, typeIn, typeAt, grown, ended, printable, onward, nameFrom, nameOf}
 use Rattle.moving.specs.Moves.{past}
 use Rattle.names.specs.Judge.{summary, draftOf}
 use Rattle.names.proofs.Cursors.{open-token, open-ended}
@@ -33,67 +34,70 @@ unfolding spanOf
 same-at p q a b h l i k = h (10 * q + i) (omega arith)
 
 -- only the cursors from position 1 on matter to a name
-pub name-cursors : (bytes dir cur other : List ℕ) (e : Earlier) (used : ℕ) (c : List ℕ) → SameFrom 1 cur other
-    → nameOf (source bytes dir cur) e used c ≡ nameOf (source bytes dir other) e used c
+pub name-cursors : (rules : Rules) (bytes dir cur other : List ℕ) (e : Earlier) (used : ℕ) (c : List ℕ) → SameFrom 1 cur other
+    → nameOf (source rules bytes dir cur) e used c ≡ nameOf (source rules bytes dir other) e used c
 unfolding nameOf
-name-cursors bytes dir cur other e used c h =
-    name-same (source bytes dir other) (source bytes dir cur) e e used 128 1 (draft [] [] 0 c) (omega arith)
+name-cursors rules bytes dir cur other e used c h =
+    name-same (source rules bytes dir other) (source rules bytes dir cur) e e used 128 1 (draft [] [] 0 c) (omega arith)
     (record {
-      steps = λ q k l. step-cursors bytes dir cur other q (same-at 1 q cur other h k) e;
-      types = λ q k l. byte-in-same bytes dir cur other q (same-at 1 q cur other h k) 0 (omega arith);
+      steps = λ q k l. step-cursors rules bytes dir cur other q (same-at 1 q cur other h k) e;
+      types = λ q k l. ap (typeIn (rules .numbers)) (byte-in-same rules bytes dir cur other q (same-at 1 q cur other h k) 0 (omega arith));
       bytes = λ q k l t u r. refl;
     })
 
 -- what is read leaves every cursor inside its span
-module _ (bytes dir cur : List ℕ) (e : Earlier) (used : ℕ) where
-  module _ (p f : ℕ) (d D : Draft) (high : p ≤ 128) (o : Open bytes dir (d .cur)) (same : SameFrom p (d .cur) cur)
-      (on : (x : Draft) → Open bytes dir (x .cur) → SameFrom (p + 1) (x .cur) cur → nameFrom (source bytes dir cur) e used f (p + 1) x ≡ named D → Open bytes dir (D .cur)) where
-    step-here : stepAt (source bytes dir (d .cur)) e p ≡ stepAt (source bytes dir cur) e p
-    step-here = step-cursors bytes dir (d .cur) cur p (same-at p p (d .cur) cur same (omega arith)) e
+module _ (rules : Rules) (bytes dir cur : List ℕ) (e : Earlier) (used : ℕ) where
+  module _ (p : ℕ) (d : Draft) (high : p ≤ 128) (o : Open bytes dir (d .cur)) (same : SameFrom p (d .cur) cur) where
+    -- what stands at the position is what stood there when the name began
+    pub step-here : stepAt (source rules bytes dir (d .cur)) e p ≡ stepAt (source rules bytes dir cur) e p
+    step-here = step-cursors rules bytes dir (d .cur) cur p (same-at p p (d .cur) cur same (omega arith)) e
 
-    type-here : byteIn (source bytes dir (d .cur)) p 0 ≡ byteIn (source bytes dir cur) p 0
-    type-here = byte-in-same bytes dir (d .cur) cur p (same-at p p (d .cur) cur same (omega arith)) 0 (omega arith)
+    pub type-here : byteIn (source rules bytes dir (d .cur)) p 0 ≡ byteIn (source rules bytes dir cur) p 0
+    type-here = byte-in-same rules bytes dir (d .cur) cur p (same-at p p (d .cur) cur same (omega arith)) 0 (omega arith)
 
-    grown-open : (t : Token) (c : Cursor) → stepAt (source bytes dir cur) e p ≡ step.Got t c → Open bytes dir (grown (source bytes dir cur) e used p t (c .0) d .cur)
+    -- past its token
+    pub grown-open : (t : Token) (c : Cursor) → stepAt (source rules bytes dir cur) e p ≡ step.Got t c → Open bytes dir (grown (source rules bytes dir cur) e used p t (c .0) d .cur)
     unfolding grown
-    grown-open t c q = rw (← type-here) (open-token bytes dir (d .cur) o e p high (step-here ∙ q))
+    grown-open t c q = rw (← type-here) (open-token rules bytes dir (d .cur) o e p high (step-here ∙ q))
 
-    grown-same : (t : Token) (c : Cursor) → SameFrom (p + 1) (grown (source bytes dir cur) e used p t (c .0) d .cur) cur
+    pub grown-same : (t : Token) (c : Cursor) → SameFrom (p + 1) (grown (source rules bytes dir cur) e used p t (c .0) d .cur) cur
     unfolding grown
     grown-same t c j k =
-        value-later (typeIn (byteIn (source bytes dir cur) p 0)) (past (d .cur) (spanOf p 0) 1) p (c .0) j k
+        value-later (typeAt (source rules bytes dir cur) p) (past (d .cur) (spanOf p 0) 1) p (c .0) j k
         ∙ past-later (d .cur) p 0 1 j (omega arith) k ∙ same j (omega arith)
 
-    ended-open : stepAt (source bytes dir cur) e p ≡ step.End → named (ended p d) ≡ named D → Open bytes dir (D .cur)
-    unfolding ended
-    ended-open q r =
-        let w : ended p d ≡ D = cc in
-        let k = ap (λ (x : Draft). x .cur) w in
-        rw (← k) (open-ended bytes dir (d .cur) o e p high (step-here ∙ q))
+    module _ (f : ℕ) (D : Draft)
+        (on : (x : Draft) → Open bytes dir (x .cur) → SameFrom (p + 1) (x .cur) cur → nameFrom (source rules bytes dir cur) e used f (p + 1) x ≡ named D → Open bytes dir (D .cur)) where
+      ended-open : stepAt (source rules bytes dir cur) e p ≡ step.End → named (ended p d) ≡ named D → Open bytes dir (D .cur)
+      unfolding ended
+      ended-open q r =
+          let w : ended p d ≡ D = cc in
+          let k = ap (λ (x : Draft). x .cur) w in
+          rw (← k) (open-ended rules bytes dir (d .cur) o e p high (step-here ∙ q))
 
-    onward-open : (st : Step) → stepAt (source bytes dir cur) e p ≡ st
-        → onward (source bytes dir cur) e used p d st (nameFrom (source bytes dir cur) e used f (p + 1)) ≡ named D → Open bytes dir (D .cur)
-    unfolding onward
-    onward-open (step.Got t c) q r =
-        let g = grown (source bytes dir cur) e used p t (c .0) d in
-        let y = nameFrom (source bytes dir cur) e used f (p + 1) g in
-        by-test (printable (bytesOf bytes (e .text) t) (length (d .text)))
-        (λ z. on g (grown-open t c q) (grown-same t c) (sym (pick-true y (refused 8) z) ∙ r))
-        (λ z. absurd (never-named (sym (pick-false y (refused 8) z) ∙ r)))
-    onward-open step.End q r =
-        by-test (eqb (length (d .text)) 0)
-        (λ z. absurd (never-named (sym (pick-true (refused 8) (named (ended p d)) z) ∙ r)))
-        (λ z. ended-open q (sym (pick-false (refused 8) (named (ended p d)) z) ∙ r))
-    onward-open (step.Refused n) q r = absurd (never-named r)
+      onward-open : (st : Step) → stepAt (source rules bytes dir cur) e p ≡ st
+          → onward (source rules bytes dir cur) e used p d st (nameFrom (source rules bytes dir cur) e used f (p + 1)) ≡ named D → Open bytes dir (D .cur)
+      unfolding onward
+      onward-open (step.Got t c) q r =
+          let g = grown (source rules bytes dir cur) e used p t (c .0) d in
+          let y = nameFrom (source rules bytes dir cur) e used f (p + 1) g in
+          by-test (printable (bytesOf bytes (e .text) t) (length (d .text)))
+          (λ z. on g (grown-open t c q) (grown-same t c) (sym (pick-true y (refused 8) z) ∙ r))
+          (λ z. absurd (never-named (sym (pick-false y (refused 8) z) ∙ r)))
+      onward-open step.End q r =
+          by-test (eqb (length (d .text)) 0)
+          (λ z. absurd (never-named (sym (pick-true (refused 8) (named (ended p d)) z) ∙ r)))
+          (λ z. ended-open q (sym (pick-false (refused 8) (named (ended p d)) z) ∙ r))
+      onward-open (step.Refused n) q r = absurd (never-named r)
 
   from-open : (f p : ℕ) (d D : Draft) → p + f ≤ 129 → Open bytes dir (d .cur) → SameFrom p (d .cur) cur
-      → nameFrom (source bytes dir cur) e used f p d ≡ named D → Open bytes dir (D .cur)
+      → nameFrom (source rules bytes dir cur) e used f p d ≡ named D → Open bytes dir (D .cur)
   unfolding nameFrom
   from-open zero p d D h o s q = absurd (never-named q)
   from-open (suc f) p d D h o s q =
-      onward-open p f d D (omega arith) o s (λ x a b r. from-open f (p + 1) x D (omega arith) a b r) (stepAt (source bytes dir cur) e p) refl q
+      onward-open p d (omega arith) o s f D (λ x a b r. from-open f (p + 1) x D (omega arith) a b r) (stepAt (source rules bytes dir cur) e p) refl q
 
-  pub name-open : (c : List ℕ) (D : Draft) → Open bytes dir c → SameFrom 1 c cur → nameOf (source bytes dir cur) e used c ≡ named D → Open bytes dir (D .cur)
+  pub name-open : (c : List ℕ) (D : Draft) → Open bytes dir c → SameFrom 1 c cur → nameOf (source rules bytes dir cur) e used c ≡ named D → Open bytes dir (D .cur)
   unfolding nameOf
   name-open c D o h q = from-open 128 1 (draft [] [] 0 c) D (omega arith) o h q
 

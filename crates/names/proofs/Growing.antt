@@ -17,9 +17,9 @@ use Rattle.tokens.specs.declared.Token.{Token}
 use Rattle.tokens.proofs.Laws.{length-row}
 use Rattle.values.specs.declared.Step.{Step}
 use Rattle.values.specs.declared.Step.the-variants as step
-use Rattle.sources.specs.Source.{Source, Earlier, byteIn}
+use Rattle.sources.specs.Source.{Source, Earlier}
 use Rattle.steps.specs.Steps.{stepAt}
-use Rattle.names.specs.Names.{Draft, Named, named, refused, grown, ended, printable, onward, nameFrom}
+use Rattle.names.specs.Names.{Draft, Named, named, refused, typeAt, grown, ended, printable, onward, nameFrom}
 
 pub never-named : {r : ℕ} {d : Draft} → refused r ≡ named d → ⊥
 never-named q = let z : _≡_ {A = ℕ} 0 1 = cc in omega arith
@@ -99,11 +99,11 @@ grows s e used (suc f) p d D q = onward-grows s e used p f d D (nameFrom s e use
 -- what a name looks at from position p on is the same in two places
 pub record Alike (s s' : Source) (e e' : Earlier) (p : ℕ) : Type 0 where
   pub steps : (q : ℕ) → p ≤ q → q ≤ 128 → stepAt s' e' q ≡ stepAt s e q
-  pub types : (q : ℕ) → p ≤ q → q ≤ 128 → byteIn s' q 0 ≡ byteIn s q 0
+  pub types : (q : ℕ) → p ≤ q → q ≤ 128 → typeAt s' q ≡ typeAt s q
   pub bytes : (q : ℕ) → p ≤ q → q ≤ 128 → (t : Token) (c : Cursor) → stepAt s e q ≡ step.Got t c
       → bytesOf (s' .bytes) (e' .text) t ≡ bytesOf (s .bytes) (e .text) t
 
-module _ (s s' : Source) (e e' : Earlier) (used p : ℕ) (d : Draft) (rest rest' : Draft → Named) (k : byteIn s' p 0 ≡ byteIn s p 0)
+module _ (s s' : Source) (e e' : Earlier) (used p : ℕ) (d : Draft) (rest rest' : Draft → Named) (k : typeAt s' p ≡ typeAt s p)
     (r : (g : Draft) → rest' g ≡ rest g) where
   grown-same : (t : Token) (c : ℕ) → bytesOf (s' .bytes) (e' .text) t ≡ bytesOf (s .bytes) (e .text) t → grown s' e' used p t c d ≡ grown s e used p t c d
   unfolding grown

@@ -19,13 +19,14 @@ use Rattle.tokens.specs.declared.TokenType.{TokenType}
 use Rattle.tokens.specs.declared.Token.{Token}
 use Rattle.tokens.specs.Tokens.{bytesOf, lengthOf, rowOf}
 use Rattle.tokens.proofs.Laws.{length-bytes, length-row}
+use Rattle.tokens.specs.Types.{Rules}
 use Rattle.values.specs.declared.Step.{Step}
 use Rattle.values.specs.declared.Step.the-variants as step
 use Rattle.sources.specs.Source.{Source, source, Earlier, earlier, byteIn}
 use Rattle.steps.specs.Steps.{typedStep, stepAt}
 use Rattle.repeats.specs.Sound.{Rows}
 use Rattle.steps.proofs.Laws.{Known, Given, given, ended}
-use Rattle.names.specs.Names.{Draft, draft, Named, named, refused, typeIn, grown, printable, onward, nameFrom, nameOf}
+use Rattle.names.specs.Names.{Draft, draft, Named, named, refused, typeAt, grown, printable, onward, nameFrom, nameOf}
 use Rattle.moving.specs.Moves.{past, valuePast}
 use Rattle.names.specs.Names as names
 use Rattle.names.specs.Judge.{draftOf}
@@ -46,7 +47,7 @@ unfolding putToken
 token-put bytes text rows cur t ty p c at row e f g = cc
 
 -- what lies before position p is kept, and what is read from there on is the rest of the name D
-pub record Going (bytes dir text₀ rows₀ : List ℕ) (first count used row : ℕ) (D : Draft) (cur text rows : List ℕ) (p at : ℕ) : Type 0 where
+pub record Going (rules : Rules) (bytes dir text₀ rows₀ : List ℕ) (first count used row : ℕ) (D : Draft) (cur text rows : List ℕ) (p at : ℕ) : Type 0 where
   pub d : Draft
   pub low : 1 ≤ p
   pub high : p ≤ 128
@@ -59,17 +60,17 @@ pub record Going (bytes dir text₀ rows₀ : List ℕ) (first count used row : 
   pub whole : length (d .rows) ≡ rowSize * d .count
   pub opened : Open bytes dir cur
   pub known : Rows used (earlier text rows first count)
-  pub goes : nameFrom (source bytes dir cur) (earlier text rows first count) used (129 - p) p d ≡ named D
+  pub goes : nameFrom (source rules bytes dir cur) (earlier text rows first count) used (129 - p) p d ≡ named D
   pub lengthText : length text ≡ length text₀
   pub lengthRows : length rows ≡ length rows₀
   pub belowText : Below 256 text
   pub belowRows : Below (2 ^ 32) rows
 
-pub begun : (bytes dir cur text rows : List ℕ) (first count used row : ℕ) (n : Named) → nameOf (source bytes dir cur) (earlier text rows first count) used cur ≡ n
+pub begun : (rules : Rules) (bytes dir cur text rows : List ℕ) (first count used row : ℕ) (n : Named) → nameOf (source rules bytes dir cur) (earlier text rows first count) used cur ≡ n
     → n ≡ named (draftOf n) → Open bytes dir cur → Rows used (earlier text rows first count) → Below 256 text → Below (2 ^ 32) rows
-    → Going bytes dir text rows first count used row (draftOf n) cur text rows 1 used
+    → Going rules bytes dir text rows first count used row (draftOf n) cur text rows 1 used
 unfolding nameOf
-begun bytes dir cur text rows first count used row n q w o k bt br =
+begun rules bytes dir cur text rows first count used row n q w o k bt br =
     record {
       d = draft [] [] 0 cur;
       low = omega arith;
@@ -90,23 +91,23 @@ begun bytes dir cur text rows first count used row n q w o k bt br =
       belowRows = br;
     }
 
-module _ (bytes dir text₀ rows₀ : List ℕ) (first count used row : ℕ) (n : Named) (room : Roomy n (first + count) used row text₀ rows₀)
+module _ (rules : Rules) (bytes dir text₀ rows₀ : List ℕ) (first count used row : ℕ) (n : Named) (room : Roomy n (first + count) used row text₀ rows₀)
     (bytesBelow : Below 256 bytes) (dirBelow : Below (2 ^ 32) dir)
-    (cur text rows : List ℕ) (p at : ℕ) (g : Going bytes dir text₀ rows₀ first count used row (draftOf n) cur text rows p at) where
-  known-at : (q : ℕ) → p ≤ q → q ≤ 128 → Known (source bytes dir cur) (earlier text rows first count) used q
+    (cur text rows : List ℕ) (p at : ℕ) (g : Going rules bytes dir text₀ rows₀ first count used row (draftOf n) cur text rows p at) where
+  known-at : (q : ℕ) → p ≤ q → q ≤ 128 → Known (source rules bytes dir cur) (earlier text rows first count) used q
   known-at q h l =
       record { opened = g .opened; rows = g .known; first = omega (arith, g .low); last = l; bytes = bytesBelow; texts = g .belowText; numbers = g .belowRows }
 
-  one : onward (source bytes dir cur) (earlier text rows first count) used p (g .d) (stepAt (source bytes dir cur) (earlier text rows first count) p)
-      (nameFrom (source bytes dir cur) (earlier text rows first count) used (129 - (p + 1)) (p + 1)) ≡ named (draftOf n)
+  one : onward (source rules bytes dir cur) (earlier text rows first count) used p (g .d) (stepAt (source rules bytes dir cur) (earlier text rows first count) p)
+      (nameFrom (source rules bytes dir cur) (earlier text rows first count) used (129 - (p + 1)) (p + 1)) ≡ named (draftOf n)
   unfolding nameFrom
   one = let e : 129 - p ≡ suc (129 - (p + 1)) = omega (arith, g .high) in rw e at (g .goes)
 
-  pub never-refuses : {r : ℕ} → stepAt (source bytes dir cur) (earlier text rows first count) p ≡ step.Refused r → ⊥
+  pub never-refuses : {r : ℕ} → stepAt (source rules bytes dir cur) (earlier text rows first count) p ≡ step.Refused r → ⊥
   unfolding onward
   never-refuses q = never-named (rw q at one)
 
-  end-of : stepAt (source bytes dir cur) (earlier text rows first count) p ≡ step.End → names.ended p (g .d) ≡ draftOf n
+  end-of : stepAt (source rules bytes dir cur) (earlier text rows first count) p ≡ step.End → names.ended p (g .d) ≡ draftOf n
   unfolding onward
   end-of q =
       let o = rw q at one in
@@ -115,7 +116,7 @@ module _ (bytes dir text₀ rows₀ : List ℕ) (first count used row : ℕ) (n 
       (λ y. let z = sym (pick-false (refused 8) (named (names.ended p (g .d))) y) ∙ o in (cc))
 
   -- END: byte 10 behind the text
-  pub ends : {text' cur' : List ℕ} → stepAt (source bytes dir cur) (earlier text rows first count) p ≡ step.End
+  pub ends : {text' cur' : List ℕ} → stepAt (source rules bytes dir cur) (earlier text rows first count) p ≡ step.End
       → cur' ≡ past cur (spanOf p 0) 1 → text' ≡ written text at (10 ∷ []) → memory text' rows cur' ≡ putName used row text₀ rows₀ (draftOf n)
   unfolding putName names.ended
   ends {text'} {cur'} q c t =
@@ -134,26 +135,26 @@ module _ (bytes dir text₀ rows₀ : List ℕ) (first count used row : ℕ) (n 
       let ce : cur' ≡ draftOf n .cur = c ∙ ap (λ (x : List ℕ). past x (spanOf p 0) 1) (g .cursors) ∙ dc in
       cc
 
-  end-there : stepAt (source bytes dir cur) (earlier text rows first count) p ≡ step.End → cursorOf cur (spanOf p 0) + 1 < 2 ^ 32
+  end-there : stepAt (source rules bytes dir cur) (earlier text rows first count) p ≡ step.End → cursorOf cur (spanOf p 0) + 1 < 2 ^ 32
   unfolding endOf
   end-there q =
-      let w = ended (source bytes dir cur) (earlier text rows first count) used p (known-at p (omega arith) (g .high)) q .there in
+      let w = ended (source rules bytes dir cur) (earlier text rows first count) used p (known-at p (omega arith) (g .high)) q .there in
       omega (arith, dirBelow (2 * spanOf p 0 + 1))
 
   -- what keeping END asks for
-  pub end-asks : stepAt (source bytes dir cur) (earlier text rows first count) p ≡ step.End
+  pub end-asks : stepAt (source rules bytes dir cur) (earlier text rows first count) p ≡ step.End
       → ((length cur ≡ 1290) × ((p ≤ 128) × (cursorOf cur (spanOf p 0) + 1 < 2 ^ 32))) × (at + 1 ≤ length text)
   unfolding names.ended
   end-asks q =
       let dl = ap (λ (x : Draft). length (x .text)) (end-of q) in
       ((g .opened .table, (g .high, end-there q)), omega (arith, room .bytes, g .place, g .lengthText))
 
-  module _ (t : Token) (c : Cursor) (q : stepAt (source bytes dir cur) (earlier text rows first count) p ≡ step.Got t c) where
+  module _ (t : Token) (c : Cursor) (q : stepAt (source rules bytes dir cur) (earlier text rows first count) p ≡ step.Got t c) where
     next : Draft
-    next = grown (source bytes dir cur) (earlier text rows first count) used p t (c .0) (g .d)
+    next = grown (source rules bytes dir cur) (earlier text rows first count) used p t (c .0) (g .d)
 
-    told : Given (source bytes dir cur) (earlier text rows first count) used p t c
-    told = given (source bytes dir cur) (earlier text rows first count) used p (known-at p (omega arith) (g .high)) q
+    told : Given (source rules bytes dir cur) (earlier text rows first count) used p t c
+    told = given (source rules bytes dir cur) (earlier text rows first count) used p (known-at p (omega arith) (g .high)) q
 
     prints : printable (bytesOf bytes text t) (length (g .d .text)) ≡ true
     unfolding onward
@@ -163,9 +164,9 @@ module _ (bytes dir text₀ rows₀ : List ℕ) (first count used row : ℕ) (n 
         (λ y. y)
         (λ y. absurd (never-named (sym (pick-false _ (refused 8) y) ∙ o)))
 
-    rest : nameFrom (source bytes dir cur) (earlier text rows first count) used (129 - (p + 1)) (p + 1) next ≡ named (draftOf n)
+    rest : nameFrom (source rules bytes dir cur) (earlier text rows first count) used (129 - (p + 1)) (p + 1) next ≡ named (draftOf n)
     unfolding onward next
-    rest = sym (pick-true (nameFrom (source bytes dir cur) (earlier text rows first count) used (129 - (p + 1)) (p + 1) next) (refused 8) prints) ∙ rw q at one
+    rest = sym (pick-true (nameFrom (source rules bytes dir cur) (earlier text rows first count) used (129 - (p + 1)) (p + 1) next) (refused 8) prints) ∙ rw q at one
 
     wide : length (bytesOf bytes text t) ≡ lengthOf t
     wide = length-bytes bytes text t (told .inside)
@@ -190,12 +191,12 @@ module _ (bytes dir text₀ rows₀ : List ℕ) (first count used row : ℕ) (n 
     -- there is room for the token
     pub token-room : (at + lengthOf t ≤ length text) × (rowSize * (row + (p - 1)) + rowSize ≤ length rows)
     token-room =
-        let w = grows (source bytes dir cur) (earlier text rows first count) used (129 - (p + 1)) (p + 1) next (draftOf n) rest in (
+        let w = grows (source rules bytes dir cur) (earlier text rows first count) used (129 - (p + 1)) (p + 1) next (draftOf n) rest in (
           omega (arith, w .longer, next-text, room .bytes, g .place, g .lengthText),
           omega (arith, w .more, next-count, room .table, g .counted, g .lengthRows),
         )
 
-    module _ (ty : TokenType) (text' rows' cur' : List ℕ) (e : ty ≡ typeIn (byteIn (source bytes dir cur) p 0))
+    module _ (ty : TokenType) (text' rows' cur' : List ℕ) (e : ty ≡ typeAt (source rules bytes dir cur) p)
         (m : memory text' rows' cur' ≡ putToken bytes (memory text rows cur) t ty p (c .0) at (row + (p - 1))) where
       text-is : text' ≡ written text at (bytesOf bytes text t)
       unfolding putToken
@@ -205,23 +206,23 @@ module _ (bytes dir text₀ rows₀ : List ℕ) (first count used row : ℕ) (n 
       unfolding putToken
       rows-is = ap (λ (x : Memory). x .rows) m
 
-      cur-is : cur' ≡ valuePast (typeIn (byteIn (source bytes dir cur) p 0)) p (c .0) (past cur (spanOf p 0) 1)
+      cur-is : cur' ≡ valuePast (typeAt (source rules bytes dir cur) p) p (c .0) (past cur (spanOf p 0) 1)
       unfolding putToken
       cur-is = ap (λ (x : Memory). x .cur) m ∙ ap (λ (x : TokenType). valuePast x p (c .0) (past cur (spanOf p 0) 1)) e
 
       later : (j : ℕ) → 10 * (p + 1) ≤ j → cursorOf cur j ≡ cursorOf cur' j
       later j h =
           sym (ap (λ (x : List ℕ). cursorOf x j) cur-is
-          ∙ value-later (typeIn (byteIn (source bytes dir cur) p 0)) (past cur (spanOf p 0) 1) p (c .0) j h
+          ∙ value-later (typeAt (source rules bytes dir cur) p) (past cur (spanOf p 0) 1) p (c .0) j h
           ∙ past-later cur p 0 1 j (omega arith) h)
 
       span-later : (q i : ℕ) → p + 1 ≤ q → i ≤ 9 → cursorOf cur (spanOf q i) ≡ cursorOf cur' (spanOf q i)
       unfolding spanOf
       span-later q i h l = later (10 * q + i) (omega arith)
 
-      behind : Stays bytes dir cur cur' text text' rows rows' first count used (p + 1)
+      behind : Stays rules bytes dir cur cur' text text' rows rows' first count used (p + 1)
       behind =
-          stays bytes dir cur cur' text text' rows rows' first count used (p + 1) at (row + (p - 1)) (bytesOf bytes text t) (rowOf t at) text-is rows-is
+          stays rules bytes dir cur cur' text text' rows rows' first count used (p + 1) at (row + (p - 1)) (bytesOf bytes text t) (rowOf t at) text-is rows-is
           (omega (arith, g .place)) (omega (arith, room .behind)) (omega (arith, token-room .0, wide)) (omega (arith, token-room .1, length-row t at))
           (g .known) (λ j h l. known-at j (omega arith) l) span-later
 
@@ -244,11 +245,11 @@ module _ (bytes dir text₀ rows₀ : List ℕ) (first count used row : ℕ) (n 
       cur-grown : cur' ≡ next .cur
       unfolding next grown
       cur-grown =
-          cur-is ∙ ap (λ (x : List ℕ). valuePast (typeIn (byteIn (source bytes dir cur) p 0)) p (c .0) (past x (spanOf p 0) 1)) (g .cursors)
+          cur-is ∙ ap (λ (x : List ℕ). valuePast (typeAt (source rules bytes dir cur) p) p (c .0) (past x (spanOf p 0) 1)) (g .cursors)
 
       -- after a turn
       pub turned : (w : ℕ) → w ≡ lengthOf t → Below 256 text' → Below (2 ^ 32) rows'
-          → Going bytes dir text₀ rows₀ first count used row (draftOf n) cur' text' rows' (p + 1) (at + w)
+          → Going rules bytes dir text₀ rows₀ first count used row (draftOf n) cur' text' rows' (p + 1) (at + w)
       turned w k bt br =
           record {
             d = next;
@@ -261,10 +262,10 @@ module _ (bytes dir text₀ rows₀ : List ℕ) (first count used row : ℕ) (n 
             short = omega (arith, next-text, next-short);
             counted = omega (arith, next-count, g .counted);
             whole = next-rows;
-            opened = rw cur-is (open-token bytes dir cur (g .opened) (earlier text rows first count) p (g .high) q);
+            opened = rw cur-is (open-token rules bytes dir cur (g .opened) (earlier text rows first count) p (g .high) q);
             known = behind .known;
             goes =
-                name-same (source bytes dir cur) (source bytes dir cur') (earlier text rows first count) (earlier text' rows' first count) used
+                name-same (source rules bytes dir cur) (source rules bytes dir cur') (earlier text rows first count) (earlier text' rows' first count) used
                 (129 - (p + 1)) (p + 1) next (omega (arith, told .before)) (behind .alike)
                 ∙ rest;
             lengthText = behind .lengthText ∙ g .lengthText;

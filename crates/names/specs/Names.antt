@@ -13,7 +13,7 @@ use Rattle.block.specs.Streams.{typeStream}
 use Rattle.tokens.specs.declared.TokenType.{TokenType}
 use Rattle.tokens.specs.declared.TokenType.the-variants as type
 use Rattle.tokens.specs.declared.Token.{Token}
-use Rattle.tokens.specs.Types.{typeOf}
+use Rattle.tokens.specs.Types.{Numbers, typeOf}
 use Rattle.tokens.specs.Tokens.{bytesOf, rowOf}
 use Rattle.sources.specs.Source.{Source, Earlier, byteIn}
 use Rattle.values.specs.declared.Step.{Step}
@@ -37,9 +37,12 @@ pub data Named : Type 0 where
   refused : ℕ → Named
 
 -- the type at a position
-unfoldable pub typeIn : NextByte → TokenType
-typeIn (byte.Value b c) = typeOf b
-typeIn byte.Short = type.Other
+unfoldable pub typeIn : Numbers → NextByte → TokenType
+typeIn n (byte.Value b c) = typeOf n b
+typeIn n byte.Short = type.Other
+
+abbrev pub typeAt : Source → ℕ → TokenType
+typeAt s p = typeIn (s .rules .numbers) (byteIn s p typeStream)
 
 -- with one token more
 unfoldable pub grown : Source → Earlier → ℕ → ℕ → Token → ℕ → Draft → Draft
@@ -47,7 +50,7 @@ grown s e used p t c d = draft
     (d .text ++ bytesOf (s .bytes) (e .text) t)
     (d .rows ++ rowOf t (used + length (d .text)))
     (d .count + 1)
-    (valuePast (typeIn (byteIn s p typeStream)) p c (past (d .cur) (spanOf p typeStream) 1))
+    (valuePast (typeAt s p) p c (past (d .cur) (spanOf p typeStream) 1))
 
 -- with its END
 unfoldable pub ended : ℕ → Draft → Draft

@@ -3,6 +3,7 @@ ghost use mathlib.Core.Path.{_≡_};
 ghost use Prim.Native.Nat.{_≤_, _<_, _+_, _*_, _^_};
 ghost use lib.ListN.{length};
 ghost use Rattle.block.specs.Block.{spanOf, cursorOf};
+ghost use Rattle.tokens.specs.Types.{numbersOf};
 ghost use Rattle.tokens.specs.Tokens.{lengthOf};
 ghost use Rattle.tokens.specs.Inside.{Inside, KeptBelow};
 ghost use Rattle.names.specs.Names.{typeIn};
@@ -11,17 +12,21 @@ ghost use Rattle.names.specs.Keeps.{putToken, memoryLent, memoryLeft};
 ghost use Rattle.base.specs.Lent.{lent};
 ghost use Rattle.block.specs.Streams.{typeStream};
 ghost use Rattle.kept.specs.Tables.{rowSize};
+use block::Setting;
 use spans::Cursor;
 use spans::NextByte;
 use spans::Position;
 use tokens::Token;
 use tokens::TokenType;
 
-pub fn type_in(found: NextByte) -> TokenType
-    ensures { λ r. ⌜ r ≡ typeIn found ⌝ }
+pub fn type_in(set: Setting, found: NextByte) -> TokenType
+    ensures { λ r. ⌜ r ≡ typeIn (numbersOf (set .kind)) found ⌝ }
 {
     match found {
-        NextByte::Value(b, _) => tokens::type_of(b),
+        NextByte::Value(b, _) => {
+            let kind = set.kind;
+            tokens::type_of(kind, b)
+        }
         NextByte::Short => TokenType::Other,
     }
 }

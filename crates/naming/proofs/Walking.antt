@@ -12,6 +12,7 @@ use Rattle.base.specs.Every.{Below}
 use Rattle.block.specs.declared.State.{State}
 use Rattle.block.specs.Open.{Open}
 use Rattle.block.specs.Streams.{diffStream}
+use Rattle.tokens.specs.Types.{Rules}
 use Rattle.kept.specs.Tables.{entrySize, keeping}
 use Rattle.kept.specs.Inside.{Counted}
 use Rattle.sources.specs.Source.{source, Earlier, earlier}
@@ -49,9 +50,9 @@ pub walks-less : {b : Bool} → b ≡ false → pick true 0 1 < pick b 0 1
 unfolding pick
 walks-less q = rw q (omega arith)
 
-module _ (bytes dir cur text names rows : List ℕ) (st : State) (distance first count : ℕ) where
+module _ (rules : Rules) (bytes dir cur text names rows : List ℕ) (st : State) (distance first count : ℕ) where
   abbrev name : Named
-  name = nameOf (source bytes dir cur) (earlier text rows first count) (st .text) (headPast cur diffStream)
+  name = nameOf (source rules bytes dir cur) (earlier text rows first count) (st .text) (headPast cur diffStream)
 
   -- where a walk starts, nothing is written; where it is to keep, the name is judged, there is room for it, and the head's cursors are moved
   pub record Starts (keeps : Bool) (cur' text' names' rows' : List ℕ) : Type 0 where
@@ -66,15 +67,15 @@ module _ (bytes dir cur text names rows : List ℕ) (st : State) (distance first
     pub lengthEntries : length names' ≡ length names
     pub lengthRows : length rows' ≡ length rows
 
-  pub starts : Starts false cur text names rows
-  unfolding pick
-  starts = record {
+  -- the first walk is one that judges
+  pub starts : {keeps : Bool} → keeps ≡ false → Starts keeps cur text names rows
+  starts q = record {
     texts = refl;
     entries = refl;
     table = refl;
-    cursors = refl;
-    whole = λ q. absurd (never q);
-    room = λ q. absurd (never q);
+    cursors = sym (pick-false _ _ q);
+    whole = λ y. absurd (never (sym q ∙ y));
+    room = λ y. absurd (never (sym q ∙ y));
     lengthCursors = refl;
     lengthText = refl;
     lengthEntries = refl;
@@ -86,22 +87,22 @@ module _ (bytes dir cur text names rows : List ℕ) (st : State) (distance first
 
   -- what the name is judged as doesn't depend on how far the cursors before it are moved
   summed : (keeps : Bool) (c : List ℕ)
-      → summary (nameOf (source bytes dir (pick keeps (headPast cur diffStream) cur)) (earlier text rows first count) (st .text) c) ≡ summary name
+      → summary (nameOf (source rules bytes dir (pick keeps (headPast cur diffStream) cur)) (earlier text rows first count) (st .text) c) ≡ summary name
   summed keeps c =
-      let s = source bytes dir (pick keeps (headPast cur diffStream) cur) in
+      let s = source rules bytes dir (pick keeps (headPast cur diffStream) cur) in
       let e = earlier text rows first count in
       judge-of s e (st .text) c ∙ sym (judge-of s e (st .text) (headPast cur diffStream))
-      ∙ ap summary (name-cursors bytes dir (pick keeps (headPast cur diffStream) cur) cur e (st .text) (headPast cur diffStream) (same-from keeps))
+      ∙ ap summary (name-cursors rules bytes dir (pick keeps (headPast cur diffStream) cur) cur e (st .text) (headPast cur diffStream) (same-from keeps))
 
   -- nor does the name, behind its head
   here : {keeps : Bool} {cur' : List ℕ} → keeps ≡ true → cur' ≡ pick keeps (headPast cur diffStream) cur
-      → nameOf (source bytes dir cur') (earlier text rows first count) (st .text) cur' ≡ name
+      → nameOf (source rules bytes dir cur') (earlier text rows first count) (st .text) cur' ≡ name
   here q c =
       rw (c ∙ pick-true _ _ q)
-      (name-cursors bytes dir (headPast cur diffStream) cur (earlier text rows first count) (st .text) (headPast cur diffStream) (head-same cur diffStream (omega arith)))
+      (name-cursors rules bytes dir (headPast cur diffStream) cur (earlier text rows first count) (st .text) (headPast cur diffStream) (head-same cur diffStream (omega arith)))
 
   module _ (o : Open bytes dir cur) (k : Counted (keeping st text names rows)) (r : Rows (st .text) (earlier text rows first count) × (first + count ≤ st .rows))
-      (g : Headed (source bytes dir cur) diffStream distance (st .names)) where
+      (g : Headed (source rules bytes dir cur) diffStream distance (st .names)) where
     roomy : roomFor (keeping st text names rows) (draftOf name) ≡ true → name ≡ named (draftOf name) → Roomy name (first + count) (st .text) (st .rows) text rows
     unfolding roomFor
     roomy h w =
@@ -116,14 +117,14 @@ module _ (bytes dir cur text names rows : List ℕ) (st : State) (distance first
         }
 
     opens : (keeps : Bool) → Open bytes dir (pick keeps (headPast cur diffStream) cur)
-    opens keeps = pick-holds (Open bytes dir) keeps _ _ (λ q. head-open bytes dir cur diffStream distance (st .names) o (omega arith) (omega arith) g) (λ q. o)
+    opens keeps = pick-holds (Open bytes dir) keeps _ _ (λ q. head-open rules bytes dir cur diffStream distance (st .names) o (omega arith) (omega arith) g) (λ q. o)
 
     -- what a walk asks for
     pub walk-asks : (known : Bool) → Repeats known (earlier text rows first count) → (keeps : Bool) {cur' text' names' rows' : List ℕ} → Starts keeps cur' text' names' rows'
         → Open bytes dir cur' × (Rows (st .text) (earlier text' rows' first count)
         × (((st .text < 2 ^ 31) × ((first + count ≤ st .rows) × (st .rows < 2 ^ 31)))
         × (Repeats known (earlier text' rows' first count)
-        × (keeps ≡ true → Roomy (nameOf (source bytes dir cur') (earlier text' rows' first count) (st .text) cur') (first + count) (st .text) (st .rows) text' rows'))))
+        × (keeps ≡ true → Roomy (nameOf (source rules bytes dir cur') (earlier text' rows' first count) (st .text) cur') (first + count) (st .text) (st .rows) text' rows'))))
     walk-asks known p keeps s =
         rw (s .texts, s .table) (
           rw (s .cursors) (opens keeps),
@@ -138,9 +139,9 @@ module _ (bytes dir cur text names rows : List ℕ) (st : State) (distance first
 
     -- a walk, and what it answers and leaves
     module _ (keeps : Bool) (cur' text' names' rows' : List ℕ) (s : Starts keeps cur' text' names' rows') (j : Judged) (cur'' text'' rows'' : List ℕ)
-        (told : j ≡ summary (nameOf (source bytes dir cur') (earlier text' rows' first count) (st .text) cur'))
+        (told : j ≡ summary (nameOf (source rules bytes dir cur') (earlier text' rows' first count) (st .text) cur'))
         (left : memory text'' rows'' cur'' ≡ pick keeps
-        (putName (st .text) (st .rows) text' rows' (draftOf (nameOf (source bytes dir cur') (earlier text' rows' first count) (st .text) cur')))
+        (putName (st .text) (st .rows) text' rows' (draftOf (nameOf (source rules bytes dir cur') (earlier text' rows' first count) (st .text) cur')))
         (memory text' rows' cur')) where
       sums : j ≡ summary name
       sums = told ∙ rw (s .texts, s .table, s .cursors) (summed keeps (pick keeps (headPast cur diffStream) cur))
@@ -156,12 +157,12 @@ module _ (bytes dir cur text names rows : List ℕ) (st : State) (distance first
       bounds : (size added : ℕ) → j ≡ judged.Name added size → (size ≤ 254) × (added ≤ 127)
       bounds size added q =
           let w = judges size added q in
-          let b = name-bounds (source bytes dir cur) (earlier text rows first count) (st .text) (headPast cur diffStream) _ (w .whole) in
+          let b = name-bounds (source rules bytes dir cur) (earlier text rows first count) (st .text) (headPast cur diffStream) _ (w .whole) in
           (omega (arith, b .short (omega arith), w .bytes), omega (arith, b .few, w .rows))
 
       -- refused for itself: not where it was judged before
       pub walk-refused : {z : Reading} (n : ℕ) → j ≡ judged.Refused n → z ≡ refusing st n
-          → outcome (z .answer) cur'' (keeping (z .state) text'' names' rows'') ≡ diffOf (source bytes dir cur) (keeping st text names rows) distance (earlier text rows first count)
+          → outcome (z .answer) cur'' (keeping (z .state) text'' names' rows'') ≡ diffOf (source rules bytes dir cur) (keeping st text names rows) distance (earlier text rows first count)
       unfolding diffOf namedOf refusing atName
       walk-refused {z} n q e =
           let w = judged-refused name (sym q ∙ sums) in
@@ -174,7 +175,7 @@ module _ (bytes dir cur text names rows : List ℕ) (st : State) (distance first
       module _ (size added : ℕ) (q : j ≡ judged.Name added size) where
         -- judged, and no room for it
         pub walk-full : {z : Reading} → keeps ≡ false → roomOf (keeping st text'' names' rows'') size added ≡ false → z ≡ refusing st 9
-            → outcome (z .answer) cur'' (keeping (z .state) text'' names' rows'') ≡ diffOf (source bytes dir cur) (keeping st text names rows) distance (earlier text rows first count)
+            → outcome (z .answer) cur'' (keeping (z .state) text'' names' rows'') ≡ diffOf (source rules bytes dir cur) (keeping st text names rows) distance (earlier text rows first count)
         unfolding diffOf namedOf
         walk-full y h e =
             let u = unwritten y in
@@ -183,13 +184,13 @@ module _ (bytes dir cur text names rows : List ℕ) (st : State) (distance first
             let n = s .entries in
             let l = ap (λ (m : Memory). m .rows) u in
             rw (t, l, ap (λ (m : Memory). m .cur) u, n, w .whole)
-            (keep-refused bytes dir cur text names rows st (draftOf name) (st .rows) (draftOf name .count) distance size added (sym (w .bytes)) (sym (w .rows)) (rw (t, l, n) at h) e)
+            (keep-refused rules bytes dir cur text names rows st (draftOf name) (st .rows) (draftOf name .count) distance size added (sym (w .bytes)) (sym (w .rows)) (rw (t, l, n) at h) e)
 
         -- what moving past the head asks for
         pub head-asks : keeps ≡ false → Below (2 ^ 32) dir → ((length cur'' ≡ 1290) × ((1 ≤ 6) × (6 ≤ 9))) × Passable cur'' diffStream
         head-asks y b =
             rw (ap (λ (m : Memory). m .cur) (unwritten y))
-            ((o .table, (omega arith, omega arith)), head-passable bytes dir cur diffStream distance (st .names) b g)
+            ((o .table, (omega arith, omega arith)), head-passable rules bytes dir cur diffStream distance (st .names) b g)
 
         -- judged, with room for it: on to the walk that keeps it
         pub walk-on : {past : List ℕ} → keeps ≡ false → roomOf (keeping st text'' names' rows'') size added ≡ true → past ≡ headPast cur'' diffStream
@@ -202,7 +203,7 @@ module _ (bytes dir cur text names rows : List ℕ) (st : State) (distance first
             let v = ap (λ (m : Memory). m .rows) u in
             let n = s .entries in
             let p = c ∙ ap (λ (m : Memory). headPast (m .cur) diffStream) u in
-            let l = head-open bytes dir cur diffStream distance (st .names) o (omega arith) (omega arith) g .table in
+            let l = head-open rules bytes dir cur diffStream distance (st .names) o (omega arith) (omega arith) g .table in
             record {
               texts = t;
               entries = n;
@@ -232,13 +233,13 @@ module _ (bytes dir cur text names rows : List ℕ) (st : State) (distance first
 
           -- kept
           pub walk-kept : {z : Reading} {names'' : List ℕ} → z ≡ keepingName st size added → names'' ≡ written names' (entrySize * st .names) (entryOf st size (st .rows) added distance)
-              → outcome (z .answer) cur'' (keeping (z .state) text'' names'' rows'') ≡ diffOf (source bytes dir cur) (keeping st text names rows) distance (earlier text rows first count)
+              → outcome (z .answer) cur'' (keeping (z .state) text'' names'' rows'') ≡ diffOf (source rules bytes dir cur) (keeping st text names rows) distance (earlier text rows first count)
           unfolding diffOf namedOf putName
           walk-kept {z} {names''} e n =
               let w = judges size added q in
               let D = draftOf name in
               rw (w .whole)
-              (keep-kept bytes dir cur text names rows st D (st .rows) (D .count) distance size added (sym (w .bytes)) (sym (w .rows))
+              (keep-kept rules bytes dir cur text names rows st D (st .rows) (D .count) distance size added (sym (w .bytes)) (sym (w .rows))
               (room-same bytes dir cur text names rows st D size added (sym (w .bytes)) (sym (w .rows)) ∙ s .room y) e
               (ap (λ (m : Memory). m .cur) put) (ap (λ (m : Memory). m .text) put)
               (n ∙ ap (λ (l : List ℕ). written l (entrySize * st .names) (entryOf st size (st .rows) added distance)) (s .entries)

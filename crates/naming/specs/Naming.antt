@@ -1,6 +1,7 @@
 -- A name read over the rows of an earlier one.
 use Prim.Native.Nat.{ℕ}
 use Rattle.base.specs.Lent.{Buffer, lent}
+use Rattle.block.specs.declared.Setting.{Setting}
 use Rattle.block.specs.declared.State.{State}
 use Rattle.block.specs.Streams.{diffStream}
 use Rattle.kept.specs.Tables.{Kept, tablesLent}
@@ -19,6 +20,6 @@ unfoldable pub diffOf : Source → Kept → ℕ → Earlier → Outcome
 diffOf s m distance e = namedOf s m distance (nameOf s e (m .state .text) (headPast (s .cur) diffStream))
 
 -- the same over what a call is lent
-abbrev pub diffOfLent : Buffer → Buffer → Buffer → Buffer → Buffer → Buffer → State → ℕ → ℕ → ℕ → Outcome
-diffOfLent bytes dir cursors text entries rows state distance first count =
-    diffOf (blockLent bytes dir cursors) (tablesLent state text entries rows) distance (earlier (lent text) (lent rows) first count)
+abbrev pub diffOfLent : Setting → Buffer → Buffer → Buffer → Buffer → Buffer → Buffer → State → ℕ → ℕ → ℕ → Outcome
+diffOfLent set bytes dir cursors text entries rows state distance first count =
+    diffOf (blockLent set bytes dir cursors) (tablesLent state text entries rows) distance (earlier (lent text) (lent rows) first count)

@@ -4,6 +4,7 @@ ghost use Prim.Native.Nat.{_+_, _≤_};
 ghost use Rattle.block.specs.Open.{Open};
 ghost use Rattle.kept.specs.Tables.{keeping};
 ghost use Rattle.kept.specs.Inside.{Counted};
+ghost use Rattle.tokens.specs.Types.{rulesOf};
 ghost use Rattle.sources.specs.Source.{source, earlier};
 ghost use Rattle.repeats.specs.Sound.{Rows};
 ghost use Rattle.repeating.specs.Repeats.{Repeats};
@@ -11,6 +12,7 @@ ghost use Rattle.entries.specs.Outcomes.{leaves};
 ghost use Rattle.heads.specs.Headed.{Headed};
 ghost use Rattle.naming.specs.Naming.{diffOfLent};
 ghost use Rattle.block.specs.Streams.{diffStream};
+use block::Setting;
 use block::State;
 use block::stream;
 use entries::Reading;
@@ -20,6 +22,7 @@ use spans::Distance;
 
 // Rule 4, over the rows of an earlier name that was judged: walked to judge it, and once more to keep it.
 pub fn named(
+    set: Setting,
     known: bool,
     bytes: &[u8],
     dir: &[u32],
@@ -35,13 +38,14 @@ pub fn named(
     requires { ⌜ Open (now bytes) (now dir) (now cursors) ⌝ }
     requires { ⌜ Counted (keeping state (now text) (now entries) (now rows)) ⌝ }
     requires { ⌜ Rows (state .text) (earlier (now text) (now rows) first count) × (first + count ≤ state .rows) ⌝ }
-    requires { ⌜ Headed (source (now bytes) (now dir) (now cursors)) diffStream (distance .0) (state .names) ⌝ }
+    requires { ⌜ Headed (source (rulesOf set) (now bytes) (now dir) (now cursors)) diffStream (distance .0) (state .names) ⌝ }
     requires { ⌜ Repeats known (earlier (now text) (now rows) first count) ⌝ }
-    ensures { λ r. ⌜ leaves r cursors text entries rows ≡ diffOfLent bytes dir cursors text entries rows state (distance .0) first count ⌝ }
+    ensures { λ r. ⌜ leaves r cursors text entries rows ≡ diffOfLent set bytes dir cursors text entries rows state (distance .0) first count ⌝ }
 {
     let mut keeping = false;
     loop {
         match walks::walk(
+            set,
             keeping,
             known,
             bytes,

@@ -1,28 +1,24 @@
 // A read and a whole block as C functions leave them: the answer one number, the state as four.
 // A refused read leaves what it may write as it was, the state too; a whole block keeps what was done before the refusal.
 ghost use mathlib.Core.Path.{_≡_};
+ghost use Rattle.tokens.specs.Types.{rulesOf};
 ghost use Rattle.calls.specs.Calls.{readsLeft, readCallLent, blockCallLent};
+use block::Setting;
 
 pub fn read(
+    set: Setting,
     bytes: &[u8],
-    directory: &[u32],
+    dir: &[u32],
     cursors: &mut [u32],
     text: &mut [u8],
     names: &mut [u32],
     rows: &mut [u32],
     state: &mut [u32; 4],
 ) -> u64
-    ensures { λ r. ⌜ readsLeft r cursors text names rows state ≡ readCallLent bytes directory cursors text names rows state ⌝ }
+    ensures { λ r. ⌜ readsLeft r cursors text names rows state ≡ readCallLent (rulesOf set) bytes dir cursors text names rows state ⌝ }
 {
-    let r = reading::read(
-        bytes,
-        directory,
-        cursors,
-        text,
-        names,
-        rows,
-        answers::state_in(state),
-    );
+    let given = answers::state_in(state);
+    let r = reading::read(set, bytes, dir, cursors, text, names, rows, given);
     let s = r.state;
     *state = answers::state_out(s);
     let a = r.answer;
@@ -30,8 +26,9 @@ pub fn read(
 }
 
 pub fn read_block(
+    set: Setting,
     bytes: &[u8],
-    directory: &[u32],
+    dir: &[u32],
     count: u32,
     cursors: &mut [u32],
     text: &mut [u8],
@@ -39,18 +36,10 @@ pub fn read_block(
     rows: &mut [u32],
     state: &mut [u32; 4],
 ) -> u64
-    ensures { λ r. ⌜ readsLeft r cursors text names rows state ≡ blockCallLent bytes directory count cursors text names rows state ⌝ }
+    ensures { λ r. ⌜ readsLeft r cursors text names rows state ≡ blockCallLent (rulesOf set) bytes dir count cursors text names rows state ⌝ }
 {
-    let r = reading::read_block(
-        bytes,
-        directory,
-        count,
-        cursors,
-        text,
-        names,
-        rows,
-        answers::state_in(state),
-    );
+    let given = answers::state_in(state);
+    let r = reading::read_block(set, bytes, dir, count, cursors, text, names, rows, given);
     let s = r.state;
     *state = answers::state_out(s);
     let a = r.answer;

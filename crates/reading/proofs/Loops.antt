@@ -14,6 +14,7 @@ use Rattle.block.specs.declared.Verdict.the-variants.{Unsound, Outside, Inside}
 use Rattle.block.specs.Block.{opening, openOf, verdictOf}
 use Rattle.block.specs.Open.{Open}
 use Rattle.block.proofs.Laws.{judged-open, accepted, accepted-open, verdict-unsound, verdict-outside, verdict-inside}
+use Rattle.tokens.specs.Types.{Rules}
 use Rattle.kept.specs.Tables.{Kept, keeping}
 use Rattle.kept.specs.Judgement.{counts}
 use Rattle.kept.specs.Inside.{Counted}
@@ -33,19 +34,19 @@ pub unknown : (m : Kept) {b : Bool} → b ≡ false → Known b m
 unknown m e q = absurd (never (sym e ∙ q))
 
 -- the public read
-module _ (bytes dir cur text names rows : List ℕ) (st : State) where
+module _ (rules : Rules) (bytes dir cur text names rows : List ℕ) (st : State) where
   plain-is : {r : Reading} (n : ℕ) → r ≡ refusingPlain st n
-      → outcome (r .answer) cur (keeping (r .state) text names rows) ≡ plain (source bytes dir cur) (keeping st text names rows) n
+      → outcome (r .answer) cur (keeping (r .state) text names rows) ≡ plain (source rules bytes dir cur) (keeping st text names rows) n
   unfolding refusingPlain plain
   plain-is n q = rw q
 
   pub read-unsound : {r : Reading} → verdictOf (length bytes) dir cur ≡ Unsound → r ≡ refusingPlain st 1
-      → outcome (r .answer) cur (keeping (r .state) text names rows) ≡ readOf (source bytes dir cur) (keeping st text names rows)
+      → outcome (r .answer) cur (keeping (r .state) text names rows) ≡ readOf (source rules bytes dir cur) (keeping st text names rows)
   unfolding readOf
   read-unsound v q = left _ _ (verdict-unsound (length bytes) dir cur v) (plain-is 1 q)
 
   pub read-outside : {r : Reading} → verdictOf (length bytes) dir cur ≡ Outside → r ≡ refusingPlain st 13
-      → outcome (r .answer) cur (keeping (r .state) text names rows) ≡ readOf (source bytes dir cur) (keeping st text names rows)
+      → outcome (r .answer) cur (keeping (r .state) text names rows) ≡ readOf (source rules bytes dir cur) (keeping st text names rows)
   unfolding readOf
   read-outside v q =
       let w = verdict-outside (length bytes) dir cur v in
@@ -56,7 +57,7 @@ module _ (bytes dir cur text names rows : List ℕ) (st : State) where
 
   module _ (v : verdictOf (length bytes) dir cur ≡ Inside) where
     pub read-miscounted : {r : Reading} → counts (keeping st text names rows) ≡ false → r ≡ refusingPlain st 13
-        → outcome (r .answer) cur (keeping (r .state) text names rows) ≡ readOf (source bytes dir cur) (keeping st text names rows)
+        → outcome (r .answer) cur (keeping (r .state) text names rows) ≡ readOf (source rules bytes dir cur) (keeping st text names rows)
     unfolding readOf
     read-miscounted h q = took _ _ (verdict-inside (length bytes) dir cur v .0) (left _ _ h (plain-is 13 q))
 
@@ -65,14 +66,14 @@ module _ (bytes dir cur text names rows : List ℕ) (st : State) where
         let w = verdict-inside (length bytes) dir cur v in
         (judged-open bytes dir cur (w .0) (w .1), counted (keeping st text names rows) h)
 
-    pub read-is : {o : Outcome} → counts (keeping st text names rows) ≡ true → o ≡ nextOf (source bytes dir cur) (keeping st text names rows)
-        → o ≡ readOf (source bytes dir cur) (keeping st text names rows)
-    read-is h q = let b = read-judged h in q ∙ sym (read-next bytes dir cur text names rows st (b .0) (b .1))
+    pub read-is : {o : Outcome} → counts (keeping st text names rows) ≡ true → o ≡ nextOf (source rules bytes dir cur) (keeping st text names rows)
+        → o ≡ readOf (source rules bytes dir cur) (keeping st text names rows)
+    read-is h q = let b = read-judged h in q ∙ sym (read-next rules bytes dir cur text names rows st (b .0) (b .1))
 
 -- a whole block
-module _ (bytes dir cur text names rows : List ℕ) (st : State) (count : ℕ) where
+module _ (rules : Rules) (bytes dir cur text names rows : List ℕ) (st : State) (count : ℕ) where
   pub block-refused : {r : Refusal} {cur' : List ℕ} {a : Opened} → opening a cur' ≡ openOf (length bytes) dir count cur → a ≡ opened.Refused r
-      → outcome (answer.Refused r) cur' (keeping st text names rows) ≡ blockOf (source bytes dir cur) (keeping st text names rows) count
+      → outcome (answer.Refused r) cur' (keeping st text names rows) ≡ blockOf (source rules bytes dir cur) (keeping st text names rows) count
   unfolding blockOf openedOf
   block-refused q e = rw (← q, e)
 
@@ -90,10 +91,10 @@ module _ (bytes dir cur text names rows : List ℕ) (st : State) (count : ℕ) w
       )
 
   pub block-is : {s : State} {cur' : List ℕ} {a : Opened} {o : Outcome} → opening a cur' ≡ openOf (length bytes) dir count cur → a ≡ opened.Fresh s
-      → o ≡ readsFrom bytes dir (s .count - s .names + 1) (fresh cur' (keeping s text names rows))
-      → o ≡ blockOf (source bytes dir cur) (keeping st text names rows) count
+      → o ≡ readsFrom rules bytes dir (s .count - s .names + 1) (fresh cur' (keeping s text names rows))
+      → o ≡ blockOf (source rules bytes dir cur) (keeping st text names rows) count
   unfolding blockOf openedOf
   block-is {s} {cur'} q e r =
       let c = accepted (length bytes) dir count cur (sym q ∙ ap (λ (x : Opened). opening x cur') e) in
       let n : s .count - s .names ≡ count = ap (λ (x : State). x .count - x .names) (c .state) ∙ omega arith in
-      rw (← q, e) (r ∙ ap (λ (x : ℕ). readsFrom bytes dir (x + 1) (fresh cur' (keeping s text names rows))) n)
+      rw (← q, e) (r ∙ ap (λ (x : ℕ). readsFrom rules bytes dir (x + 1) (fresh cur' (keeping s text names rows))) n)

@@ -14,7 +14,7 @@ use Rattle.reads.specs.Reads.{fresh, readsFrom}
 -- every read keeps a name or is the last, so one more than the count are enough
 unfoldable pub openedOf : Source → Kept → ℕ → List ℕ → Opened → Outcome
 openedOf s m count cur (opened.Fresh st) =
-    readsFrom (s .bytes) (s .dir) (count + 1) (fresh cur (keeping st (m .text) (m .names) (m .rows)))
+    readsFrom (s .rules) (s .bytes) (s .dir) (count + 1) (fresh cur (keeping st (m .text) (m .names) (m .rows)))
 openedOf s m count cur (opened.Refused r) = outcome (answer.Refused r) cur m
 
 unfoldable pub blockOf : Source → Kept → ℕ → Outcome

@@ -8,6 +8,7 @@ ghost use Rattle.reads.specs.Reads.{readOf};
 ghost use Rattle.reading.specs.Blocks.{blockOf};
 use block::Block;
 use block::Opened;
+use block::Setting;
 use block::State;
 use block::Verdict;
 use entries::Answer;
@@ -16,6 +17,7 @@ use kept::judgement;
 
 // One name a call.
 pub fn read(
+    set: Setting,
     bytes: &[u8],
     dir: &[u32],
     cursors: &mut [u32],
@@ -24,14 +26,14 @@ pub fn read(
     rows: &mut [u32],
     state: State,
 ) -> Reading
-    ensures { λ r. ⌜ leaves r cursors text entries rows ≡ readOf (blockLent bytes dir cursors) (tablesLent state text entries rows) ⌝ }
+    ensures { λ r. ⌜ leaves r cursors text entries rows ≡ readOf (blockLent set bytes dir cursors) (tablesLent state text entries rows) ⌝ }
 {
     match block::judge(bytes, dir, cursors) {
         Verdict::Unsound => entries::refuse_plain(1, state),
         Verdict::Outside => entries::refuse_plain(13, state),
         Verdict::Inside => {
             if judgement::counts(state, text, entries, rows) {
-                reads::reads(false, bytes, dir, cursors, text, entries, rows, state)
+                reads::reads(set, false, bytes, dir, cursors, text, entries, rows, state)
             } else {
                 entries::refuse_plain(13, state)
             }
@@ -41,6 +43,7 @@ pub fn read(
 
 // A whole block: opening, then reads.
 pub fn read_block(
+    set: Setting,
     bytes: &[u8],
     dir: &[u32],
     count: u32,
@@ -50,12 +53,12 @@ pub fn read_block(
     rows: &mut [u32],
     state: State,
 ) -> Reading
-    ensures { λ r. ⌜ leaves r cursors text entries rows ≡ blockOf (blockLent bytes dir cursors) (tablesLent state text entries rows) count ⌝ }
+    ensures { λ r. ⌜ leaves r cursors text entries rows ≡ blockOf (blockLent set bytes dir cursors) (tablesLent state text entries rows) count ⌝ }
 {
     let b = Block { count: count };
     match b.open(bytes, dir, cursors) {
         Opened::Fresh(start) => {
-            reads::reads(true, bytes, dir, cursors, text, entries, rows, start)
+            reads::reads(set, true, bytes, dir, cursors, text, entries, rows, start)
         }
         Opened::Refused(r) => Reading {
             answer: Answer::Refused(r),

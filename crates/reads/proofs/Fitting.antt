@@ -29,7 +29,7 @@ use Rattle.spans.proofs.Laws.{end-found}
 use Rattle.block.specs.Block.{spanOf, endOf, cursorOf}
 use Rattle.block.specs.Open.{Open}
 use Rattle.block.proofs.Laws.{span-below}
-use Rattle.block.specs.Streams.{stringStream, charStream, digits0Stream, dzlenStream, digitsStream, ddeltaStream, ddelta0Stream}
+use Rattle.block.specs.Streams.{stringStream, charStream, digitsStream, ddeltaStream, ddelta0Stream}
 use Rattle.tokens.specs.declared.TokenType.{TokenType}
 use Rattle.tokens.specs.declared.TokenType.the-variants as type
 use Rattle.tokens.specs.declared.Token.{Token}
@@ -174,7 +174,7 @@ module _ (s : Source) (e : Earlier) where
 
     typed-fine : (v : NextByte) → Fine s e (typedStep s e p v)
     unfolding typedStep
-    typed-fine (byte.Value b c) = pick-holds (λ (x : Step). Fine s e x) (barred p (typeOf b)) _ _ (λ h. tt) (λ h. value-fine c (typeOf b))
+    typed-fine (byte.Value b c) = pick-holds (λ (x : Step). Fine s e x) (barred p (typeOf (s .rules .numbers) b)) _ _ (λ h. tt) (λ h. value-fine c (typeOf (s .rules .numbers) b))
     typed-fine byte.Short = tt
 
     step-fine : Fine s e (stepAt s e p)

@@ -20,6 +20,7 @@ use Rattle.block.specs.Block.{allAtEnd}
 use Rattle.block.specs.Open.{Open}
 use Rattle.block.proofs.Laws.{open-sound, open-inside}
 use Rattle.block.specs.Streams.{dupStream, diffStream}
+use Rattle.tokens.specs.Types.{Rules}
 use Rattle.kept.specs.declared.Entry.{Entry}
 use Rattle.kept.specs.declared.Row.{Row}
 use Rattle.kept.specs.Tables.{entrySize, rowSize, Kept, keeping, entryAt, rowAt}
@@ -165,12 +166,12 @@ module _ (st : State) (text names rows : List ℕ) (k : Counted (keeping st text
             ∙ sym (ap (λ (x : Row). x .start + x .length) (row j (j - st .rows) (omega arith) (omega arith)));
       }
 
-module _ (bytes dir cur text names rows : List ℕ) (st : State) (o : Open bytes dir cur) (k : Counted (keeping st text names rows)) where
-  at-holds : (n : ℕ) → Holds bytes dir (keeping st text names rows) (atName (source bytes dir cur) (keeping st text names rows) n)
+module _ (rules : Rules) (bytes dir cur text names rows : List ℕ) (st : State) (o : Open bytes dir cur) (k : Counted (keeping st text names rows)) where
+  at-holds : (n : ℕ) → Holds bytes dir (keeping st text names rows) (atName (source rules bytes dir cur) (keeping st text names rows) n)
   unfolding atName
   at-holds n = record { opened = o; counted = k; fits = λ f. f; spelt = λ f s. s; more = λ i q. absurd (refused-not q) }
 
-  plain-holds : (n : ℕ) → Holds bytes dir (keeping st text names rows) (plain (source bytes dir cur) (keeping st text names rows) n)
+  plain-holds : (n : ℕ) → Holds bytes dir (keeping st text names rows) (plain (source rules bytes dir cur) (keeping st text names rows) n)
   unfolding plain
   plain-holds n = record { opened = o; counted = k; fits = λ f. f; spelt = λ f s. s; more = λ i q. absurd (refused-not q) }
 
@@ -207,39 +208,39 @@ module _ (bytes dir cur text names rows : List ℕ) (st : State) (o : Open bytes
             more = λ n q. record { few = few; names = refl; count = refl };
           }
 
-      keep-holds : Holds bytes dir (keeping st text names rows) (keepOf (source bytes dir cur) (keeping st text names rows) d first many distance)
+      keep-holds : Holds bytes dir (keeping st text names rows) (keepOf (source rules bytes dir cur) (keeping st text names rows) d first many distance)
       unfolding keepOf
       keep-holds =
           pick-holds (Holds bytes dir (keeping st text names rows)) (roomFor (keeping st text names rows) d) _ _ kept-holds (λ h. at-holds 9)
 
-    dup-holds : (distance : ℕ) (x : Entry) → Headed (source bytes dir cur) dupStream distance (st .names) → EntryInside st rows x
+    dup-holds : (distance : ℕ) (x : Entry) → Headed (source rules bytes dir cur) dupStream distance (st .names) → EntryInside st rows x
         → (AllSpelt (keeping st text names rows) → RowsSpelt (steps.earlier text rows (x .first) (x .rows)))
-        → Holds bytes dir (keeping st text names rows) (dupOf (source bytes dir cur) (keeping st text names rows) distance x)
+        → Holds bytes dir (keeping st text names rows) (dupOf (source rules bytes dir cur) (keeping st text names rows) distance x)
     unfolding dupOf
     dup-holds distance x g i w =
         let l = length-part text (x .start) (x .start + x .length) (omega arith) (omega (arith, i .text .ends, k .used)) in
         keep-holds (draft (part text (x .start) (x .start + x .length)) [] 0 (headPast cur dupStream)) (x .first) (x .rows) distance
-        (head-open bytes dir cur dupStream distance (st .names) o (omega arith) (omega arith) g) (omega (arith, i .text .most)) (omega arith) refl
+        (head-open rules bytes dir cur dupStream distance (st .names) o (omega arith) (omega arith) g) (omega (arith, i .text .most)) (omega arith) refl
         (copy-inner st text names rows k x (length (part text (x .start) (x .start + x .length))) distance (omega arith) i)
         (λ s. old-spelt st text names rows k (part text (x .start) (x .start + x .length) ++ (10 ∷ [])) [] x i (w s))
 
-    named-holds : (distance : ℕ) (e : Earlier) → Rows (st .text) e → Headed (source bytes dir cur) diffStream distance (st .names) → (n : Named)
-        → nameOf (source bytes dir cur) e (st .text) (headPast cur diffStream) ≡ n → Holds bytes dir (keeping st text names rows) (namedOf (source bytes dir cur) (keeping st text names rows) distance n)
+    named-holds : (distance : ℕ) (e : Earlier) → Rows (st .text) e → Headed (source rules bytes dir cur) diffStream distance (st .names) → (n : Named)
+        → nameOf (source rules bytes dir cur) e (st .text) (headPast cur diffStream) ≡ n → Holds bytes dir (keeping st text names rows) (namedOf (source rules bytes dir cur) (keeping st text names rows) distance n)
     unfolding namedOf
     named-holds distance e r g (named D) q =
-        let b = name-bounds (source bytes dir cur) e (st .text) (headPast cur diffStream) D q in
-        let p = head-open bytes dir cur diffStream distance (st .names) o (omega arith) (omega arith) g in
-        let w = name-rowed (source bytes dir cur) e (st .text) o r (headPast cur diffStream) D q in
-        keep-holds D (st .rows) (D .count) distance (name-open bytes dir cur e (st .text) (headPast cur diffStream) D p (head-same cur diffStream (omega arith)) q)
+        let b = name-bounds (source rules bytes dir cur) e (st .text) (headPast cur diffStream) D q in
+        let p = head-open rules bytes dir cur diffStream distance (st .names) o (omega arith) (omega arith) g in
+        let w = name-rowed (source rules bytes dir cur) e (st .text) o r (headPast cur diffStream) D q in
+        keep-holds D (st .rows) (D .count) distance (name-open rules bytes dir cur e (st .text) (headPast cur diffStream) D p (head-same cur diffStream (omega arith)) q)
         (b .short (omega arith)) (omega (arith, b .few)) (b .whole refl)
         (named-inner st text names rows k D distance (b .some) (b .short (omega arith)) (b .held (λ z. absurd (omega arith))) (omega (arith, b .few)) w)
         (λ s. named-spelt st text names rows k D w)
     named-holds distance e w g (refused r) q = at-holds _
 
-    diff-holds : (distance : ℕ) (e : Earlier) → Rows (st .text) e → Headed (source bytes dir cur) diffStream distance (st .names)
-        → Holds bytes dir (keeping st text names rows) (diffOf (source bytes dir cur) (keeping st text names rows) distance e)
+    diff-holds : (distance : ℕ) (e : Earlier) → Rows (st .text) e → Headed (source rules bytes dir cur) diffStream distance (st .names)
+        → Holds bytes dir (keeping st text names rows) (diffOf (source rules bytes dir cur) (keeping st text names rows) distance e)
     unfolding diffOf
-    diff-holds distance e r g = named-holds distance e r g (nameOf (source bytes dir cur) e (st .text) (headPast cur diffStream)) refl
+    diff-holds distance e r g = named-holds distance e r g (nameOf (source rules bytes dir cur) e (st .text) (headPast cur diffStream)) refl
 
     back-inside : (d : ℕ) → earlierFits (keeping st text names rows) (st .names - d) ≡ true → EntryInside st rows (entryBack (keeping st text names rows) d)
     back-inside d h = rw (back-entry (keeping st text names rows) d) (earlier (keeping st text names rows) (st .names - d) h)
@@ -247,19 +248,19 @@ module _ (bytes dir cur text names rows : List ℕ) (st : State) (o : Open bytes
     back-spelt : (d : ℕ) → st .names - d < st .names → AllSpelt (keeping st text names rows) → RowsSpelt (rowsOf (keeping st text names rows) (entryBack (keeping st text names rows) d))
     back-spelt d l s = rw (back-entry (keeping st text names rows) d) (s (st .names - d) l)
 
-    dup-judged-holds : (d : ℕ) → (1 ≤ d) × Headed (source bytes dir cur) dupStream d (st .names)
-        → Holds bytes dir (keeping st text names rows) (dupJudged (source bytes dir cur) (keeping st text names rows) d)
+    dup-judged-holds : (d : ℕ) → (1 ≤ d) × Headed (source rules bytes dir cur) dupStream d (st .names)
+        → Holds bytes dir (keeping st text names rows) (dupJudged (source rules bytes dir cur) (keeping st text names rows) d)
     unfolding rowsOf
     dup-judged-holds d g =
         pick-holds (Holds bytes dir (keeping st text names rows)) (earlierFits (keeping st text names rows) (st .names - d)) _ _
         (λ h. dup-holds d (entryBack (keeping st text names rows) d) (g .1) (back-inside d h) (back-spelt d (omega (arith, g .0, g .1 .near))))
         (λ h. at-holds 13)
 
-    first-headed : (d : ℕ) → d ≡ 0 → Headed (source bytes dir cur) diffStream d (st .names) → Headed (source bytes dir cur) diffStream 0 (st .names)
+    first-headed : (d : ℕ) → d ≡ 0 → Headed (source rules bytes dir cur) diffStream d (st .names) → Headed (source rules bytes dir cur) diffStream 0 (st .names)
     first-headed d z g = rw z at g
 
-    diff-judged-holds : (d : ℕ) → Headed (source bytes dir cur) diffStream d (st .names)
-        → Holds bytes dir (keeping st text names rows) (diffJudged (source bytes dir cur) (keeping st text names rows) d)
+    diff-judged-holds : (d : ℕ) → Headed (source rules bytes dir cur) diffStream d (st .names)
+        → Holds bytes dir (keeping st text names rows) (diffJudged (source rules bytes dir cur) (keeping st text names rows) d)
     unfolding none rowsOf
     diff-judged-holds d g =
         pick-holds (Holds bytes dir (keeping st text names rows)) (eqb d 0) _ _
@@ -270,24 +271,24 @@ module _ (bytes dir cur text names rows : List ℕ) (st : State) (o : Open bytes
         (rows-judged st text rows (entryBack (keeping st text names rows) d) (k .rowsUsed) (k .used) (back-inside d h)) g)
         (λ h. at-holds 13))
 
-    headed-holds : (h : Head) → headOf (source bytes dir cur) (st .names) ≡ h
-        → Holds bytes dir (keeping st text names rows) (headedOf (source bytes dir cur) (keeping st text names rows) h)
+    headed-holds : (h : Head) → headOf (source rules bytes dir cur) (st .names) ≡ h
+        → Holds bytes dir (keeping st text names rows) (headedOf (source rules bytes dir cur) (keeping st text names rows) h)
     unfolding headedOf
-    headed-holds (head.Dup d) q = dup-judged-holds (d .0) (dup-told (source bytes dir cur) (st .names) d q)
-    headed-holds (head.Diff d) q = diff-judged-holds (d .0) (diff-told (source bytes dir cur) (st .names) d q)
+    headed-holds (head.Dup d) q = dup-judged-holds (d .0) (dup-told (source rules bytes dir cur) (st .names) d q)
+    headed-holds (head.Diff d) q = diff-judged-holds (d .0) (diff-told (source rules bytes dir cur) (st .names) d q)
     headed-holds (head.Refused r) q = at-holds r
 
-  pub next-holds : Holds bytes dir (keeping st text names rows) (nextOf (source bytes dir cur) (keeping st text names rows))
+  pub next-holds : Holds bytes dir (keeping st text names rows) (nextOf (source rules bytes dir cur) (keeping st text names rows))
   unfolding nextOf
   next-holds =
       pick-holds (Holds bytes dir (keeping st text names rows)) (eqb (st .names) (st .count)) _ _
       (λ e. pick-holds (Holds bytes dir (keeping st text names rows)) (allAtEnd dir cur) _ _ (λ h. done-holds) (λ h. plain-holds 10))
       (λ e.
       let z = eqb-false (st .names) (st .count) e in
-      headed-holds (omega (arith, k .kept)) (headOf (source bytes dir cur) (st .names)) refl)
+      headed-holds (omega (arith, k .kept)) (headOf (source rules bytes dir cur) (st .names)) refl)
 
   -- a read judges nothing more than that
-  pub read-next : readOf (source bytes dir cur) (keeping st text names rows) ≡ nextOf (source bytes dir cur) (keeping st text names rows)
+  pub read-next : readOf (source rules bytes dir cur) (keeping st text names rows) ≡ nextOf (source rules bytes dir cur) (keeping st text names rows)
   unfolding readOf
   read-next =
       pick-true _ _ (open-sound bytes dir cur o)

@@ -9,6 +9,7 @@ use Rattle.base.specs.Choice.{pick, both}
 use Rattle.base.proofs.Choice.{both-true, by-test, pick-true, pick-false, never}
 use Rattle.block.specs.declared.State.{State}
 use Rattle.block.specs.Open.{Open}
+use Rattle.tokens.specs.Types.{Rules}
 use Rattle.kept.specs.Tables.{Kept, keeping}
 use Rattle.kept.specs.Inside.{Counted}
 use Rattle.sources.specs.Source.{source}
@@ -40,28 +41,28 @@ kept-more m o answer.Done e q h = absurd (never q)
 kept-more m o (answer.Refused r) e q h = absurd (never q)
 
 -- where the next read starts: the block is open, the counts are judged, what is known of the kept names is, and the reads left make all of them, or it is the one
-pub record Reads (bytes dir : List ℕ) (whole : Bool) (all : Outcome) (cur : List ℕ) (m : Kept) : Type 0 where
+pub record Reads (rules : Rules) (bytes dir : List ℕ) (whole : Bool) (all : Outcome) (cur : List ℕ) (m : Kept) : Type 0 where
   pub opened : Open bytes dir cur
   pub counted : Counted m
   pub known : Known whole m
-  pub goes : pick whole (readsFrom bytes dir (m .state .count - m .state .names + 1) (fresh cur m)) (nextOf (source bytes dir cur) m) ≡ all
+  pub goes : pick whole (readsFrom rules bytes dir (m .state .count - m .state .names + 1) (fresh cur m)) (nextOf (source rules bytes dir cur) m) ≡ all
 
-module _ (bytes dir : List ℕ) (whole : Bool) (all : Outcome) (cur text names rows : List ℕ) (st : State) (i : Reads bytes dir whole all cur (keeping st text names rows))
-    (o : Outcome) (e : o ≡ nextOf (source bytes dir cur) (keeping st text names rows)) where
-  one : whole ≡ true → goOn (readsFrom bytes dir (st .count - st .names)) o (o .answer) ≡ all
+module _ (rules : Rules) (bytes dir : List ℕ) (whole : Bool) (all : Outcome) (cur text names rows : List ℕ) (st : State) (i : Reads rules bytes dir whole all cur (keeping st text names rows))
+    (o : Outcome) (e : o ≡ nextOf (source rules bytes dir cur) (keeping st text names rows)) where
+  one : whole ≡ true → goOn (readsFrom rules bytes dir (st .count - st .names)) o (o .answer) ≡ all
   unfolding readsFrom
   one y =
-      let n = read-next bytes dir cur text names rows st (i .opened) (i .counted) in
+      let n = read-next rules bytes dir cur text names rows st (i .opened) (i .counted) in
       let g = rw add-one at (sym (pick-true _ _ y) ∙ i .goes) in
       rw (e, ← n) g
 
   holds : Holds bytes dir (keeping st text names rows) o
-  holds = rw e (next-holds bytes dir cur text names rows st (i .opened) (i .counted))
+  holds = rw e (next-holds rules bytes dir cur text names rows st (i .opened) (i .counted))
 
   pub reads-out : both whole (isKept (o .answer)) ≡ false → o ≡ all
   reads-out q =
       by-test whole
-      (λ y. sym (kept-out (readsFrom bytes dir (st .count - st .names)) o (o .answer) (sym (pick-true (isKept (o .answer)) false y) ∙ q)) ∙ one y)
+      (λ y. sym (kept-out (readsFrom rules bytes dir (st .count - st .names)) o (o .answer) (sym (pick-true (isKept (o .answer)) false y) ∙ q)) ∙ one y)
       (λ y. e ∙ sym (pick-false _ _ y) ∙ i .goes)
 
   more : isKept (o .answer) ≡ true → More (keeping st text names rows) o
@@ -70,13 +71,13 @@ module _ (bytes dir : List ℕ) (whole : Bool) (all : Outcome) (cur text names r
   pub reads-less : both whole (isKept (o .answer)) ≡ true → o .kept .state .count - o .kept .state .names < st .count - st .names
   reads-less q = let w = more (both-true whole (isKept (o .answer)) q .1) in omega (arith, w .few, w .names, w .count)
 
-  pub reads-on : both whole (isKept (o .answer)) ≡ true → Reads bytes dir whole all (o .cur) (o .kept)
+  pub reads-on : both whole (isKept (o .answer)) ≡ true → Reads rules bytes dir whole all (o .cur) (o .kept)
   unfolding readsFrom
   reads-on q =
       let b = both-true whole (isKept (o .answer)) q in
       let w = more (b .1) in
       let f : st .count - st .names ≡ suc (o .kept .state .count - o .kept .state .names) = omega (arith, w .few, w .names, w .count) in
-      let g = sym (kept-on (readsFrom bytes dir (st .count - st .names)) o (o .answer) (b .1)) ∙ one (b .0) in
+      let g = sym (kept-on (readsFrom rules bytes dir (st .count - st .names)) o (o .answer) (b .1)) ∙ one (b .0) in
       record {
         opened = holds .opened;
         counted = holds .counted;

@@ -5,6 +5,7 @@ use mathlib.Core.List.{List}
 use lib.ListN.{length}
 use Rattle.base.specs.Choice.{pick}
 use Rattle.block.specs.Block.{sound, allInside}
+use Rattle.tokens.specs.Types.{Rules}
 use Rattle.kept.specs.Tables.{Kept}
 use Rattle.kept.specs.Judgement.{counts}
 use Rattle.sources.specs.Source.{Source, source}
@@ -39,12 +40,12 @@ abbrev pub fresh : List ℕ → Kept → Outcome
 fresh cur m = outcome answer.Done cur m
 
 -- at most f reads
-unfoldable pub readsFrom : List ℕ → List ℕ → ℕ → Outcome → Outcome
-readsFrom bytes dir zero o = o
-readsFrom bytes dir (suc f) o =
-    let next = readOf (source bytes dir (o .cur)) (o .kept) in
-    goOn (readsFrom bytes dir f) next (next .answer)
+unfoldable pub readsFrom : Rules → List ℕ → List ℕ → ℕ → Outcome → Outcome
+readsFrom rules bytes dir zero o = o
+readsFrom rules bytes dir (suc f) o =
+    let next = readOf (source rules bytes dir (o .cur)) (o .kept) in
+    goOn (readsFrom rules bytes dir f) next (next .answer)
 
 -- the reads of a whole block that are left, which are at most one more than its names, or one read
 abbrev pub wholeOrOne : Bool → Source → Kept → Outcome
-wholeOrOne whole s m = pick whole (readsFrom (s .bytes) (s .dir) (m .state .count - m .state .names + 1) (fresh (s .cur) m)) (nextOf s m)
+wholeOrOne whole s m = pick whole (readsFrom (s .rules) (s .bytes) (s .dir) (m .state .count - m .state .names + 1) (fresh (s .cur) m)) (nextOf s m)

@@ -8,6 +8,7 @@ ghost use Rattle.sources.specs.Source.{blockLent};
 ghost use Rattle.earlier.specs.Fits.{Known};
 ghost use Rattle.entries.specs.Outcomes.{leaves};
 ghost use Rattle.reads.specs.Reads.{isKept, wholeOrOne};
+use block::Setting;
 use block::State;
 use entries::Answer;
 use entries::Reading;
@@ -31,6 +32,7 @@ fn goes_on(whole: bool, a: Answer) -> bool
 // Reads of a whole block, until "done" or a refusal, or one read; each of them the inner one: what it needs holds again after it.
 // Both ways are one function, so that the inner read is called at one place.
 pub fn reads(
+    set: Setting,
     whole: bool,
     bytes: &[u8],
     dir: &[u32],
@@ -43,11 +45,11 @@ pub fn reads(
     requires { ⌜ Open (now bytes) (now dir) (now cursors) ⌝ }
     requires { ⌜ Counted (keeping state (now text) (now entries) (now rows)) ⌝ }
     requires { ⌜ Known whole (keeping state (now text) (now entries) (now rows)) ⌝ }
-    ensures { λ r. ⌜ leaves r cursors text entries rows ≡ wholeOrOne whole (blockLent bytes dir cursors) (tablesLent state text entries rows) ⌝ }
+    ensures { λ r. ⌜ leaves r cursors text entries rows ≡ wholeOrOne whole (blockLent set bytes dir cursors) (tablesLent state text entries rows) ⌝ }
 {
     let mut so_far = state;
     loop {
-        let r = inner::next(whole, bytes, dir, cursors, text, entries, rows, so_far);
+        let r = inner::next(set, whole, bytes, dir, cursors, text, entries, rows, so_far);
         let answer = r.answer;
         if goes_on(whole, answer) {
             so_far = r.state;

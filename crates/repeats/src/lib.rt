@@ -6,7 +6,8 @@ ghost use lib.ListN.{length};
 ghost use Rattle.block.specs.Open.{Open};
 ghost use Rattle.kept.specs.Tables.{rowSize, rowAt};
 ghost use Rattle.kept.specs.Inside.{RowInside};
-ghost use Rattle.sources.specs.Source.{earlier, blockLent};
+ghost use Rattle.sources.specs.Source.{earlier, source};
+ghost use Rattle.tokens.specs.Types.{Rules};
 ghost use Rattle.repeats.specs.Repeats.{tokenOf, matchOf, deltaAt, delta0At, matchAt};
 ghost use Rattle.repeats.specs.Sound.{Rows, reach};
 ghost use Rattle.base.specs.Lent.{lent};
@@ -64,7 +65,7 @@ pub fn delta_at(
     requires { ⌜ Open (now bytes) (now dir) (now cursors) ⌝ }
     requires { ⌜ rowSize * (first + count) ≤ length (now rows) ⌝ }
     requires { ⌜ (first + count < 2 ^ 32) × ((1 ≤ p .0) × (p .0 ≤ 128)) ⌝ }
-    ensures { λ r. ⌜ ((text : List ℕ) → r ≡ deltaAt (blockLent bytes dir cursors) (earlier text (lent rows) first count) (p .0)) ⌝ }
+    ensures { λ r. ⌜ ((rules : Rules) (text : List ℕ) → r ≡ deltaAt (source rules (lent bytes) (lent dir) (lent cursors)) (earlier text (lent rows) first count) (p .0)) ⌝ }
 {
     let at = p.0;
     if count < at {
@@ -91,7 +92,7 @@ pub fn delta0_at(
     requires { ⌜ Open (now bytes) (now dir) (now cursors) ⌝ }
     requires { ⌜ rowSize * (first + count) ≤ length (now rows) ⌝ }
     requires { ⌜ (first + count < 2 ^ 32) × ((1 ≤ p .0) × (p .0 ≤ 128)) ⌝ }
-    ensures { λ r. ⌜ ((text : List ℕ) → r ≡ delta0At (blockLent bytes dir cursors) (earlier text (lent rows) first count) (p .0)) ⌝ }
+    ensures { λ r. ⌜ ((rules : Rules) (text : List ℕ) → r ≡ delta0At (source rules (lent bytes) (lent dir) (lent cursors)) (earlier text (lent rows) first count) (p .0)) ⌝ }
 {
     let at = p.0;
     if count < at {

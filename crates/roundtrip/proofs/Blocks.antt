@@ -19,6 +19,7 @@ use Rattle.roundtrip.specs.Room.{listed, textWanted, rowsAdded, rowsFor}
 use Rattle.roundtrip.specs.Back.{NameIs, RowsAre, readTimes}
 use Rattle.roundtrip.proofs.Keeping.{stays-name, stays-rows}
 use Rattle.roundtrip.proofs.Reading.{Reached, ReadBack, done-back, read-back}
+use Rattle.tokens.specs.Types.{Rules}
 
 -- kept name i and those after it are these
 unfoldable pub NamesAre : Kept → ℕ → List (List ℕ) → Type 0
@@ -53,10 +54,10 @@ whole-none cur m before =
       counts = rw (add-zero (m .state .names), add-zero (m .state .text), add-zero (m .state .rows)) refl;
     }
 
-whole-more : (bytes dir cur : List ℕ) (m : Kept) (before s : List ℕ) (ss : List (List ℕ)) (b : ReadBack bytes dir cur m before s ss) (o : Outcome)
+whole-more : (rules : Rules) (bytes dir cur : List ℕ) (m : Kept) (before s : List ℕ) (ss : List (List ℕ)) (b : ReadBack rules bytes dir cur m before s ss) (o : Outcome)
     → Whole (b .next) s ss o → Whole m before (s ∷ ss) o
 unfolding NamesAre listed textWanted rowsFor
-whole-more bytes dir cur m before s ss b o w =
+whole-more rules bytes dir cur m before s ss b o w =
     let k : ℕ = m .state .names in
     let t : ℕ = m .state .text in
     let names : b .next .state .names ≡ k + 1 = ap (λ (x : State). x .names) (b .counts) in
@@ -83,57 +84,61 @@ whole-more bytes dir cur m before s ss b o w =
           ∙ rw (p, q, r) refl;
     }
 
-module _ (bytes dir : List ℕ) (directory : length dir ≡ 2580) (within : (i : ℕ) → i < 1290 → endOf dir i ≤ length bytes) where
-  reads-done : (f : ℕ) (a : Answer) (cur : List ℕ) (m : Kept) (before : List ℕ) → Reached bytes dir cur m before []
-      → readsFrom bytes dir (suc f) (outcome a cur m) ≡ outcome answer.Done cur m
+module _ (rules : Rules) (bytes dir : List ℕ) (directory : length dir ≡ 2580) (within : (i : ℕ) → i < 1290 → endOf dir i ≤ length bytes) where
+  reads-done : (f : ℕ) (a : Answer) (cur : List ℕ) (m : Kept) (before : List ℕ) → Reached rules bytes dir cur m before []
+      → readsFrom rules bytes dir (suc f) (outcome a cur m) ≡ outcome answer.Done cur m
   unfolding readsFrom goOn
-  reads-done f a cur m before r = ap (λ (x : Outcome). goOn (readsFrom bytes dir f) x (x .answer)) (done-back bytes dir cur m before directory within r)
+  reads-done f a cur m before r = ap (λ (x : Outcome). goOn (readsFrom rules bytes dir f) x (x .answer)) (done-back rules bytes dir cur m before directory within r)
 
-  reads-more : (f : ℕ) (a : Answer) (cur : List ℕ) (m : Kept) (before s : List ℕ) (ss : List (List ℕ)) (b : ReadBack bytes dir cur m before s ss)
-      → readsFrom bytes dir (suc f) (outcome a cur m) ≡ readsFrom bytes dir f (outcome (answer.Kept (m .state .names)) (b .now) (b .next))
+  reads-more : (f : ℕ) (a : Answer) (cur : List ℕ) (m : Kept) (before s : List ℕ) (ss : List (List ℕ)) (b : ReadBack rules bytes dir cur m before s ss)
+      → readsFrom rules bytes dir (suc f) (outcome a cur m) ≡ readsFrom rules bytes dir f (outcome (answer.Kept (m .state .names)) (b .now) (b .next))
   unfolding readsFrom goOn
-  reads-more f a cur m before s ss b = ap (λ (x : Outcome). goOn (readsFrom bytes dir f) x (x .answer)) (b .is)
+  reads-more f a cur m before s ss b = ap (λ (x : Outcome). goOn (readsFrom rules bytes dir f) x (x .answer)) (b .is)
 
-  pub reads-back : (coming : List (List ℕ)) (f : ℕ) (a : Answer) (cur : List ℕ) (m : Kept) (before : List ℕ) → length coming < f → Reached bytes dir cur m before coming
-      → Whole m before coming (readsFrom bytes dir f (outcome a cur m))
+  pub reads-back : (coming : List (List ℕ)) (f : ℕ) (a : Answer) (cur : List ℕ) (m : Kept) (before : List ℕ) → length coming < f → Reached rules bytes dir cur m before coming
+      → Whole m before coming (readsFrom rules bytes dir f (outcome a cur m))
   reads-back [] zero a cur m before h r = absurd (omega arith)
   reads-back [] (suc f) a cur m before h r = rw (reads-done f a cur m before r) (whole-none cur m before)
   reads-back (s ∷ ss) zero a cur m before h r = absurd (omega arith)
   reads-back (s ∷ ss) (suc f) a cur m before h r =
-      let b : ReadBack bytes dir cur m before s ss = read-back bytes dir cur m before directory within s ss r in
+      let b : ReadBack rules bytes dir cur m before s ss = read-back rules bytes dir cur m before directory within s ss r in
       rw (reads-more f a cur m before s ss b)
-      (whole-more bytes dir cur m before s ss b (readsFrom bytes dir f (outcome (answer.Kept (m .state .names)) (b .now) (b .next)))
+      (whole-more rules bytes dir cur m before s ss b (readsFrom rules bytes dir f (outcome (answer.Kept (m .state .names)) (b .now) (b .next)))
       (reads-back ss f (answer.Kept (m .state .names)) (b .now) (b .next) s (omega arith) (b .reached)))
 
   -- the same reads, one a call
-  once : (n : ℕ) (a : Answer) (cur : List ℕ) (m : Kept) (o : Outcome) → readOf (source bytes dir cur) m ≡ o → readTimes bytes dir (suc n) (outcome a cur m) ≡ readTimes bytes dir n o
+  once : (n : ℕ) (a : Answer) (cur : List ℕ) (m : Kept) (o : Outcome) → readOf (source rules bytes dir cur) m ≡ o → readTimes rules bytes dir (suc n) (outcome a cur m) ≡ readTimes rules bytes dir n o
   unfolding readTimes
-  once n a cur m o e = ap (readTimes bytes dir n) e
+  once n a cur m o e = ap (readTimes rules bytes dir n) e
 
   -- the read after i others keeps name i
-  pub calls-back : (coming : List (List ℕ)) (i : ℕ) (a : Answer) (cur : List ℕ) (m : Kept) (before : List ℕ) → i < length coming → Reached bytes dir cur m before coming
-      → (readTimes bytes dir (suc i) (outcome a cur m) .answer ≡ answer.Kept (m .state .names + i))
-      × NameIs (readTimes bytes dir (suc i) (outcome a cur m) .kept) (m .state .names + i) (getD coming i [])
+  pub calls-back : (coming : List (List ℕ)) (i : ℕ) (a : Answer) (cur : List ℕ) (m : Kept) (before : List ℕ) → i < length coming → Reached rules bytes dir cur m before coming
+      → (readTimes rules bytes dir (suc i) (outcome a cur m) .answer ≡ answer.Kept (m .state .names + i))
+      × NameIs (readTimes rules bytes dir (suc i) (outcome a cur m) .kept) (m .state .names + i) (getD coming i [])
   unfolding readTimes
   calls-back [] i a cur m before h r = absurd (omega arith)
   calls-back (s ∷ ss) zero a cur m before h r =
-      let b : ReadBack bytes dir cur m before s ss = read-back bytes dir cur m before directory within s ss r in
+      let b : ReadBack rules bytes dir cur m before s ss = read-back rules bytes dir cur m before directory within s ss r in
       let names : b .next .state .names ≡ m .state .names + 1 = ap (λ (x : State). x .names) (b .counts) in
       rw (b .is, add-zero (m .state .names)) (refl, stays-name (b .next) (b .next) (m .state .names) s (later-same (b .next)) (omega arith) (b .entry))
   calls-back (s ∷ ss) (suc i) a cur m before h r =
-      let b : ReadBack bytes dir cur m before s ss = read-back bytes dir cur m before directory within s ss r in
+      let b : ReadBack rules bytes dir cur m before s ss = read-back rules bytes dir cur m before directory within s ss r in
       let names : b .next .state .names ≡ m .state .names + 1 = ap (λ (x : State). x .names) (b .counts) in
       let e : b .next .state .names + i ≡ m .state .names + suc i = omega arith in
       let o : Outcome = outcome (answer.Kept (m .state .names)) (b .now) (b .next) in
       let q = calls-back ss i (answer.Kept (m .state .names)) (b .now) (b .next) s (omega arith) (b .reached) in
       rw (once (suc i) a cur m o (b .is))
-      (q .0 ∙ ap answer.Kept e, subst (λ (n : ℕ). NameIs (readTimes bytes dir (suc i) o .kept) n (getD ss i [])) e (q .1))
+      (q .0 ∙ ap answer.Kept e, subst (λ (n : ℕ). NameIs (readTimes rules bytes dir (suc i) o .kept) n (getD ss i [])) e (q .1))
 
-  pub calls-done : (coming : List (List ℕ)) (a : Answer) (cur : List ℕ) (m : Kept) (before : List ℕ) → Reached bytes dir cur m before coming
-      → readTimes bytes dir (suc (length coming)) (outcome a cur m) .answer ≡ answer.Done
+  -- and one more is done, with all of them kept
+  pub calls-done : (coming : List (List ℕ)) (a : Answer) (cur : List ℕ) (m : Kept) (before : List ℕ) → Reached rules bytes dir cur m before coming
+      → (readTimes rules bytes dir (suc (length coming)) (outcome a cur m) .answer ≡ answer.Done)
+      × (readTimes rules bytes dir (suc (length coming)) (outcome a cur m) .kept .state .names ≡ m .state .names + length coming)
   unfolding readTimes
-  calls-done [] a cur m before r = ap (λ (o : Outcome). o .answer) (done-back bytes dir cur m before directory within r)
+  calls-done [] a cur m before r = rw (done-back rules bytes dir cur m before directory within r) (refl, sym (add-zero (m .state .names)))
   calls-done (s ∷ ss) a cur m before r =
-      let b : ReadBack bytes dir cur m before s ss = read-back bytes dir cur m before directory within s ss r in
-      ap (λ (o : Outcome). o .answer) (once (suc (length ss)) a cur m (outcome (answer.Kept (m .state .names)) (b .now) (b .next)) (b .is))
-      ∙ calls-done ss (answer.Kept (m .state .names)) (b .now) (b .next) s (b .reached)
+      let b : ReadBack rules bytes dir cur m before s ss = read-back rules bytes dir cur m before directory within s ss r in
+      let names : b .next .state .names ≡ m .state .names + 1 = ap (λ (x : State). x .names) (b .counts) in
+      let q = calls-done ss (answer.Kept (m .state .names)) (b .now) (b .next) s (b .reached) in
+      rw (once (suc (length ss)) a cur m (outcome (answer.Kept (m .state .names)) (b .now) (b .next)) (b .is))
+      (q .0, q .1 ∙ omega arith)

@@ -14,19 +14,20 @@ use Rattle.spans.proofs.Laws.{byte-back, four-back, text-back}
 use Rattle.block.specs.Block.{spanOf, endOf, cursorOf}
 use Rattle.sources.specs.Source.{source, byteIn, fourIn, textIn}
 use Rattle.roundtrip.proofs.Eating.{First}
+use Rattle.tokens.specs.Types.{Rules}
 
-module _ (bytes dir cur : List ℕ) (p i : ℕ) where
-  pub byte-first : (b : ℕ) → First bytes dir cur (spanOf p i) (b ∷ []) → byteIn (source bytes dir cur) p i ≡ byte.Value b (cursor (cursorOf cur (spanOf p i) + 1))
+module _ (rules : Rules) (bytes dir cur : List ℕ) (p i : ℕ) where
+  pub byte-first : (b : ℕ) → First bytes dir cur (spanOf p i) (b ∷ []) → byteIn (source rules bytes dir cur) p i ≡ byte.Value b (cursor (cursorOf cur (spanOf p i) + 1))
   unfolding byteIn
   byte-first b f = byte-back bytes (cursorOf cur (spanOf p i)) (endOf dir (spanOf p i)) b (holds-part bytes (cursorOf cur (spanOf p i)) (b ∷ []) (f .holds)) (f .room)
 
   pub four-first : (v : ℕ) → v < 2 ^ 32 → First bytes dir cur (spanOf p i) (fourBytes v)
-      → fourIn (source bytes dir cur) p i ≡ four.Value v (cursor (cursorOf cur (spanOf p i) + 4))
+      → fourIn (source rules bytes dir cur) p i ≡ four.Value v (cursor (cursorOf cur (spanOf p i) + 4))
   unfolding fourIn fourBytes
   four-first v h f = four-back bytes (cursorOf cur (spanOf p i)) (endOf dir (spanOf p i)) v h (holds-part bytes (cursorOf cur (spanOf p i)) (fourBytes v) (f .holds)) (f .room)
 
   pub text-first : (s : List ℕ) → ((k : ℕ) → k < length s → getD s k 0 ≡ 0 → ⊥) → First bytes dir cur (spanOf p i) (s ++ 0 ∷ [])
-      → textIn (source bytes dir cur) p i
+      → textIn (source rules bytes dir cur) p i
       ≡ text.Bytes (cursor (cursorOf cur (spanOf p i))) (cursor (cursorOf cur (spanOf p i) + length s)) (cursor (cursorOf cur (spanOf p i) + length s + 1))
   unfolding textIn
   text-first s z f =

@@ -24,7 +24,7 @@ use Rattle.kept.specs.Tables.{entrySize, rowSize, Kept, entryAt}
 use Rattle.kept.proofs.Later.{Later}
 use Rattle.kept.specs.Judgement.{counts}
 use Rattle.kept.specs.Inside.{Counted}
-use Rattle.tokens.specs.Types.{dupNumber, diffNumber}
+use Rattle.tokens.specs.Types.{Rules}
 use Rattle.sources.specs.Source.{Source, source, Earlier, earlier}
 use Rattle.names.specs.Names.{Draft, draft, nameOf}
 use Rattle.heads.specs.declared.Head.{Head}
@@ -61,8 +61,8 @@ AllGood [] = Unit
 AllGood (s ∷ ss) = Good s × AllGood ss
 
 -- so far read: the last name kept is `before`, the streams hold what the names `coming` put, and there is room for them
-pub record Reached (bytes dir cur : List ℕ) (m : Kept) (before : List ℕ) (coming : List (List ℕ)) : Type 0 where
-  pub left : Left bytes dir cur (putsFrom (m .state .names) before coming)
+pub record Reached (rules : Rules) (bytes dir cur : List ℕ) (m : Kept) (before : List ℕ) (coming : List (List ℕ)) : Type 0 where
+  pub left : Left bytes dir cur (putsFrom rules (m .state .names) before coming)
   pub counted : Counted m
   pub fits : AllFit m
   pub all : m .state .count ≡ m .state .names + length coming
@@ -73,11 +73,11 @@ pub record Reached (bytes dir cur : List ℕ) (m : Kept) (before : List ℕ) (co
   pub rows : rowSize * (m .state .rows + rowsFor (m .state .names) before coming) ≤ length (m .rows)
 
 -- a read that kept the name s
-pub record ReadBack (bytes dir cur : List ℕ) (m : Kept) (before s : List ℕ) (ss : List (List ℕ)) : Type 0 where
+pub record ReadBack (rules : Rules) (bytes dir cur : List ℕ) (m : Kept) (before s : List ℕ) (ss : List (List ℕ)) : Type 0 where
   pub now : List ℕ
   pub next : Kept
-  pub is : readOf (source bytes dir cur) m ≡ outcome (answer.Kept (m .state .names)) now next
-  pub reached : Reached bytes dir now next s ss
+  pub is : readOf (source rules bytes dir cur) m ≡ outcome (answer.Kept (m .state .names)) now next
+  pub reached : Reached rules bytes dir now next s ss
   pub stays : Later m next
   pub entry : EntryIs next (m .state .names) s
   pub text : Holds (next .text) (m .state .text) (s ++ 10 ∷ [])
@@ -85,16 +85,16 @@ pub record ReadBack (bytes dir cur : List ℕ) (m : Kept) (before s : List ℕ) 
 
 -- The reference of a name, case by case
 
-module _ (n : ℕ) (before s : List ℕ) where
-  puts-first : anew n ≡ true → namePuts n before s ≡ referencePuts [] s (Diff (record { 0 = 0 }))
+module _ (rules : Rules) (n : ℕ) (before s : List ℕ) where
+  puts-first : anew n ≡ true → namePuts rules n before s ≡ referencePuts rules [] s (Diff (record { 0 = 0 }))
   unfolding namePuts referenceOf leansOn pick
   puts-first a = rw a
 
-  puts-dup : anew n ≡ false → same before s ≡ true → namePuts n before s ≡ referencePuts before s (Dup (record { 0 = 1 }))
+  puts-dup : anew n ≡ false → same before s ≡ true → namePuts rules n before s ≡ referencePuts rules before s (Dup (record { 0 = 1 }))
   unfolding namePuts referenceOf leansOn pick
   puts-dup a e = rw (a, e)
 
-  puts-diff : anew n ≡ false → same before s ≡ false → namePuts n before s ≡ referencePuts before s (Diff (record { 0 = 1 }))
+  puts-diff : anew n ≡ false → same before s ≡ false → namePuts rules n before s ≡ referencePuts rules before s (Diff (record { 0 = 1 }))
   unfolding namePuts referenceOf leansOn pick
   puts-diff a e = rw (a, e)
 
@@ -122,25 +122,25 @@ rows-nothing text rows used =
       many = sym (count-out [] 127 1 0 (omega arith));
     }
 
-module _ (bytes dir cur : List ℕ) (m : Kept) (before : List ℕ) (directory : length dir ≡ 2580) (within : (i : ℕ) → i < 1290 → endOf dir i ≤ length bytes) where
+module _ (rules : Rules) (bytes dir cur : List ℕ) (m : Kept) (before : List ℕ) (directory : length dir ≡ 2580) (within : (i : ℕ) → i < 1290 → endOf dir i ≤ length bytes) where
   abbrev src : Source
-  src = source bytes dir cur
+  src = source rules bytes dir cur
 
-  opened : (coming : List (List ℕ)) → Reached bytes dir cur m before coming → Open bytes dir cur
-  opened coming r = left-open bytes dir cur (putsFrom (m .state .names) before coming) directory within (r .left)
+  opened : (coming : List (List ℕ)) → Reached rules bytes dir cur m before coming → Open bytes dir cur
+  opened coming r = left-open bytes dir cur (putsFrom rules (m .state .names) before coming) directory within (r .left)
 
-  judged : (coming : List (List ℕ)) → Reached bytes dir cur m before coming → readOf src m ≡ nextOf src m
-  judged coming r = read-next bytes dir cur (m .text) (m .names) (m .rows) (m .state) (opened coming r) (r .counted)
+  judged : (coming : List (List ℕ)) → Reached rules bytes dir cur m before coming → readOf src m ≡ nextOf src m
+  judged coming r = read-next rules bytes dir cur (m .text) (m .names) (m .rows) (m .state) (opened coming r) (r .counted)
 
   -- with all names read, "done"
-  pub done-back : Reached bytes dir cur m before [] → readOf src m ≡ outcome answer.Done cur m
+  pub done-back : Reached rules bytes dir cur m before [] → readOf src m ≡ outcome answer.Done cur m
   unfolding nextOf putsFrom
   done-back r =
       let all : m .state .count ≡ m .state .names + 0 = r .all in
       judged [] r ∙ pick-true _ _ (eq-eqb (m .state .names) (m .state .count) (omega arith))
       ∙ pick-true _ _ (each-at-end dir cur (left-none bytes dir cur (r .left)))
 
-  module _ (s : List ℕ) (ss : List (List ℕ)) (r : Reached bytes dir cur m before (s ∷ ss)) where
+  module _ (s : List ℕ) (ss : List (List ℕ)) (r : Reached rules bytes dir cur m before (s ∷ ss)) where
     abbrev k : ℕ
     k = m .state .names
 
@@ -166,9 +166,9 @@ module _ (bytes dir cur : List ℕ) (m : Kept) (before : List ℕ) (directory : 
     unfolding rowsFor
     row-room = r .rows
 
-    puts : (ps : List Put) → namePuts k before s ≡ ps → Left bytes dir cur (ps ++ putsFrom (k + 1) s ss)
+    puts : (ps : List Put) → namePuts rules k before s ≡ ps → Left bytes dir cur (ps ++ putsFrom rules (k + 1) s ss)
     unfolding putsFrom
-    puts ps q = subst (λ (x : List Put). Left bytes dir cur (x ++ putsFrom (k + 1) s ss)) q (r .left)
+    puts ps q = subst (λ (x : List Put). Left bytes dir cur (x ++ putsFrom rules (k + 1) s ss)) q (r .left)
 
     -- what was read is kept
     module _ (d : Draft) (text : d .text ≡ s) (whole : length (d .rows) ≡ rowSize * d .count) (count : d .count ≡ rowsAdded k before s) (first many distance : ℕ) where
@@ -184,9 +184,9 @@ module _ (bytes dir cur : List ℕ) (m : Kept) (before : List ℕ) (directory : 
       abbrev then : Kept
       then = after m s d text whole roomy fits enough first many distance
 
-      kept-read : readOf src m ≡ keepOf src m d first many distance → Left bytes dir (d .cur) (putsFrom (k + 1) s ss)
+      kept-read : readOf src m ≡ keepOf src m d first many distance → Left bytes dir (d .cur) (putsFrom rules (k + 1) s ss)
           → RowsOf (earlier (then .text) (then .rows) first many) (then .state .text) s → first + many ≤ then .state .rows
-          → ReadBack bytes dir cur m before s ss
+          → ReadBack rules bytes dir cur m before s ss
       kept-read q l rows inside =
           let all : m .state .count ≡ k + suc (length ss) = r .all in
           let table : entrySize * (k + suc (length ss)) ≤ length (m .names) = r .entries in
@@ -196,7 +196,7 @@ module _ (bytes dir cur : List ℕ) (m : Kept) (before : List ℕ) (directory : 
           let w : m .state .rows + d .count ≡ m .state .rows + rowsAdded k before s = ap (λ (x : ℕ). m .state .rows + x) count in
           let e : k + 1 - 1 ≡ k = omega arith in
           let p : readOf src m ≡ outcome (answer.Kept k) (d .cur) then = q ∙ kept-back m s d text whole roomy fits enough first many distance src in
-          let h = rw (sym (judged (s ∷ ss) r) ∙ p) at (next-holds bytes dir cur (m .text) (m .names) (m .rows) (m .state) (opened (s ∷ ss) r) (r .counted)) in
+          let h = rw (sym (judged (s ∷ ss) r) ∙ p) at (next-holds rules bytes dir cur (m .text) (m .names) (m .rows) (m .state) (opened (s ∷ ss) r) (r .counted)) in
           record {
             now = d .cur;
             next = then;
@@ -220,32 +220,32 @@ module _ (bytes dir cur : List ℕ) (m : Kept) (before : List ℕ) (directory : 
           }
 
     -- DUP
-    dup-back : 1 ≤ k → anew k ≡ false → same before s ≡ true → ReadBack bytes dir cur m before s ss
+    dup-back : 1 ≤ k → anew k ≡ false → same before s ≡ true → ReadBack rules bytes dir cur m before s ss
     unfolding referencePuts headPuts headedOf dupOf entryBack
     dup-back h a q =
-        let l : Left bytes dir cur (put (spanOf 0 typeStream) (dupNumber ∷ []) ∷ put (spanOf 0 dupStream) (fourBytes 1) ∷ putsFrom (k + 1) s ss) = puts _ (puts-dup k before s a q) in
+        let l : Left bytes dir cur (put (spanOf 0 typeStream) ((rules .numbers .dup) ∷ []) ∷ put (spanOf 0 dupStream) (fourBytes 1) ∷ putsFrom rules (k + 1) s ss) = puts _ (puts-dup rules k before s a q) in
         let is : before ≡ s = same-equal before s q in
         let was = r .last h in
         let entry : Entry = entryAt (m .names) (k - 1) in
         let d : Draft = draft (part (m .text) (entry .start) (entry .start + entry .length)) [] 0 (headPast cur dupStream) in
         let text : d .text ≡ s = entry-text m (k - 1) before (was .1) ∙ is in
-        let c : 0 ≡ rowsAdded k before s = sym (added-dup k before s a q) in
+        let c : 0 ≡ rowsAdded k before s = sym (added-dup rules k before s a q) in
         let old : RowsOf (earlier (m .text) (m .rows) (entry .first) (entry .rows)) (m .state .text) s =
         subst (λ (x : List ℕ). RowsOf (earlier (m .text) (m .rows) (entry .first) (entry .rows)) (m .state .text) x) is (was .1 .rows) in
         let f : 0 ≡ rowSize * 0 = omega arith in
         kept-read d text f c (entry .first) (entry .rows) 1
-        (headed (head.Dup (record { 0 = 1 })) (dup-head bytes dir cur k 1 (omega arith) (putsFrom (k + 1) s ss) (omega arith) h l)
+        (headed (head.Dup (record { 0 = 1 })) (dup-head rules bytes dir cur k 1 (omega arith) (putsFrom rules (k + 1) s ss) (omega arith) h l)
         ∙ pick-true _ _ (r .fits (k - 1) (omega arith)))
-        (head-past bytes dir cur dupNumber dupStream 1 (omega arith) (omega arith) (omega arith) (putsFrom (k + 1) s ss) l)
+        (head-past rules bytes dir cur (rules .numbers .dup) dupStream 1 (omega arith) (omega arith) (omega arith) (putsFrom rules (k + 1) s ss) l)
         (rows-old m s d text f (roomy d text f c (entry .first) (entry .rows) 1) (fits d text f c (entry .first) (entry .rows) 1)
         (enough d text f c (entry .first) (entry .rows) 1) (entry .first) (entry .rows) 1 (entry .first) (entry .rows) old (was .1 .inside))
         (omega (arith, was .1 .inside))
 
     -- DIFF, leaning on the rows of an earlier name that is x
     module _ (distance : ℕ) (e : Earlier) (x : List ℕ) (allowed : allAllowed x ≡ true) (o : RowsOf e (m .state .text) x) (added : rowsAdded k before s ≡ tokensIn s)
-        (q : readOf src m ≡ diffOf src m distance e) (l : Left bytes dir (headPast cur diffStream) (tokenPuts s 1 (choicesOf x s) ++ putsFrom (k + 1) s ss)) where
-      spelt : Spelt bytes dir s (m .state .text) 127 1 0 (draft [] [] 0 (headPast cur diffStream)) (putsFrom (k + 1) s ss) (nameOf src e (m .state .text) (headPast cur diffStream))
-      spelt = name-back bytes dir cur (headPast cur diffStream) e (m .state .text) x s (putsFrom (k + 1) s ss) allowed good o (head-same cur diffStream (omega arith)) l
+        (q : readOf src m ≡ diffOf src m distance e) (l : Left bytes dir (headPast cur diffStream) (tokenPuts rules s 1 (choicesOf x s) ++ putsFrom rules (k + 1) s ss)) where
+      spelt : Spelt bytes dir s (m .state .text) 127 1 0 (draft [] [] 0 (headPast cur diffStream)) (putsFrom rules (k + 1) s ss) (nameOf src e (m .state .text) (headPast cur diffStream))
+      spelt = name-back rules bytes dir cur (headPast cur diffStream) e (m .state .text) x s (putsFrom rules (k + 1) s ss) allowed good o (head-same cur diffStream (omega arith)) l
 
       rows : spelt .draft .rows ≡ splitRows s (m .state .text)
       unfolding splitRows
@@ -255,7 +255,7 @@ module _ (bytes dir cur : List ℕ) (m : Kept) (before : List ℕ) (directory : 
       unfolding tokensIn
       count = omega (arith, spelt .count)
 
-      diff-back : ReadBack bytes dir cur m before s ss
+      diff-back : ReadBack rules bytes dir cur m before s ss
       unfolding diffOf namedOf
       diff-back =
           let d : Draft = spelt .draft in
@@ -267,29 +267,29 @@ module _ (bytes dir cur : List ℕ) (m : Kept) (before : List ℕ) (directory : 
           (enough d (spelt .text) f c (m .state .rows) (d .count) distance) (m .state .rows) (d .count) distance rows count)
           (omega arith)
 
-    first-back : anew k ≡ true → ReadBack bytes dir cur m before s ss
+    first-back : anew k ≡ true → ReadBack rules bytes dir cur m before s ss
     unfolding referencePuts headPuts headedOf none
     first-back a =
-        let l : Left bytes dir cur (put (spanOf 0 typeStream) (diffNumber ∷ []) ∷ put (spanOf 0 diffStream) (fourBytes 0) ∷ (tokenPuts s 1 (choicesOf [] s) ++ putsFrom (k + 1) s ss)) =
-        puts _ (puts-first k before s a) in
-        diff-back 0 (none m) [] (every-none isAllowed) (rows-nothing (m .text) (m .rows) (m .state .text)) (added-first k before s a)
-        (headed (head.Diff (record { 0 = 0 })) (diff-head bytes dir cur k 0 (omega arith) (tokenPuts s 1 (choicesOf [] s) ++ putsFrom (k + 1) s ss) (omega arith) l)
+        let l : Left bytes dir cur (put (spanOf 0 typeStream) ((rules .numbers .diff) ∷ []) ∷ put (spanOf 0 diffStream) (fourBytes 0) ∷ (tokenPuts rules s 1 (choicesOf [] s) ++ putsFrom rules (k + 1) s ss)) =
+        puts _ (puts-first rules k before s a) in
+        diff-back 0 (none m) [] (every-none isAllowed) (rows-nothing (m .text) (m .rows) (m .state .text)) (added-first rules k before s a)
+        (headed (head.Diff (record { 0 = 0 })) (diff-head rules bytes dir cur k 0 (omega arith) (tokenPuts rules s 1 (choicesOf [] s) ++ putsFrom rules (k + 1) s ss) (omega arith) l)
         ∙ pick-true _ _ (eq-eqb 0 0 refl))
-        (head-past bytes dir cur diffNumber diffStream 0 (omega arith) (omega arith) (omega arith) (tokenPuts s 1 (choicesOf [] s) ++ putsFrom (k + 1) s ss) l)
+        (head-past rules bytes dir cur (rules .numbers .diff) diffStream 0 (omega arith) (omega arith) (omega arith) (tokenPuts rules s 1 (choicesOf [] s) ++ putsFrom rules (k + 1) s ss) l)
 
-    later-back : 1 ≤ k → anew k ≡ false → same before s ≡ false → ReadBack bytes dir cur m before s ss
+    later-back : 1 ≤ k → anew k ≡ false → same before s ≡ false → ReadBack rules bytes dir cur m before s ss
     unfolding referencePuts headPuts headedOf rowsOf entryBack
     later-back h a q =
-        let l : Left bytes dir cur (put (spanOf 0 typeStream) (diffNumber ∷ []) ∷ put (spanOf 0 diffStream) (fourBytes 1) ∷ (tokenPuts s 1 (choicesOf before s) ++ putsFrom (k + 1) s ss)) =
-        puts _ (puts-diff k before s a q) in
+        let l : Left bytes dir cur (put (spanOf 0 typeStream) ((rules .numbers .diff) ∷ []) ∷ put (spanOf 0 diffStream) (fourBytes 1) ∷ (tokenPuts rules s 1 (choicesOf before s) ++ putsFrom rules (k + 1) s ss)) =
+        puts _ (puts-diff rules k before s a q) in
         let was = r .last h in
-        diff-back 1 (rowsOf m (entryBack m 1)) before (was .0 .allowed) (was .1 .rows) (added-diff k before s a q)
-        (headed (head.Diff (record { 0 = 1 })) (diff-head bytes dir cur k 1 (omega arith) (tokenPuts s 1 (choicesOf before s) ++ putsFrom (k + 1) s ss) h l)
+        diff-back 1 (rowsOf m (entryBack m 1)) before (was .0 .allowed) (was .1 .rows) (added-diff rules k before s a q)
+        (headed (head.Diff (record { 0 = 1 })) (diff-head rules bytes dir cur k 1 (omega arith) (tokenPuts rules s 1 (choicesOf before s) ++ putsFrom rules (k + 1) s ss) h l)
         ∙ pick-false _ _ (ne-eqb 1 0 (λ (w : 1 ≡ 0). omega arith)) ∙ pick-true _ _ (r .fits (k - 1) (omega arith)))
-        (head-past bytes dir cur diffNumber diffStream 1 (omega arith) (omega arith) (omega arith) (tokenPuts s 1 (choicesOf before s) ++ putsFrom (k + 1) s ss) l)
+        (head-past rules bytes dir cur (rules .numbers .diff) diffStream 1 (omega arith) (omega arith) (omega arith) (tokenPuts rules s 1 (choicesOf before s) ++ putsFrom rules (k + 1) s ss) l)
 
     -- the next name
-    pub read-back : ReadBack bytes dir cur m before s ss
+    pub read-back : ReadBack rules bytes dir cur m before s ss
     unfolding anew
     read-back =
         by-test (anew k)

@@ -43,6 +43,7 @@ use Rattle.roundtrip.proofs.Eating.{Left, First, first, eat, first-othe
 use Rattle.roundtrip.proofs.Fronts.{byte-first, four-first, text-first, text-there}
 use Rattle.roundtrip.proofs.Pieces.{Small}
 use Rattle.roundtrip.proofs.Leaning.{RowIs}
+use Rattle.tokens.specs.Types.{Rules}
 
 -- a token that is token x of s
 pub record Same (bytes text : List ℕ) (s : List ℕ) (x : Piece) (t : Token) : Type 0 where
@@ -77,9 +78,9 @@ pub record Valued (s : Source) (e : Earlier) (p : ℕ) (now : List ℕ) (k : Cur
   pub same : Same (s .bytes) (e .text) name x token
   pub moved : valuePast ty p (next .0) now ≡ eaten now vs
 
-module _ (bytes dir cur : List ℕ) (e : Earlier) (p : ℕ) (low : 1 ≤ p) (high : p < 128) (s : List ℕ) (rest : List Put) (k : Cursor) where
+module _ (rules : Rules) (bytes dir cur : List ℕ) (e : Earlier) (p : ℕ) (low : 1 ≤ p) (high : p < 128) (s : List ℕ) (rest : List Put) (k : Cursor) where
   abbrev pub src : Source
-  src = source bytes dir cur
+  src = source rules bytes dir cur
 
   abbrev pub now : List ℕ
   now = past cur (spanOf p 0) 1
@@ -110,8 +111,8 @@ module _ (bytes dir cur : List ℕ) (e : Earlier) (p : ℕ) (low : 1 ≤ p) (hig
       record {
         token = token.String (record { kept = false; start = at; end = at + length (part s a z) });
         next = cursor (at + length (part s a z) + 1);
-        gives = ap stringStep (text-first bytes dir cur p 1 (part s a z) small f);
-        same = string-same bytes (e .text) s false at a z (text-there bytes dir cur p 1 (part s a z) f);
+        gives = ap stringStep (text-first rules bytes dir cur p 1 (part s a z) small f);
+        same = string-same bytes (e .text) s false at a z (text-there rules bytes dir cur p 1 (part s a z) f);
         moved = set-past 1 (length (part s a z ++ 0 ∷ [])) (at + length (part s a z) + 1) (omega arith) (omega arith) (omega (arith, length-append (part s a z) (0 ∷ [])));
       }
 
@@ -122,7 +123,7 @@ module _ (bytes dir cur : List ℕ) (e : Earlier) (p : ℕ) (low : 1 ≤ p) (hig
       record {
         token = token.Char b;
         next = cursor (cursorOf cur (spanOf p charStream) + 1);
-        gives = ap charStep (byte-first bytes dir cur p 2 b f);
+        gives = ap charStep (byte-first rules bytes dir cur p 2 b f);
         same = char-same bytes (e .text) s b;
         moved = set-past 2 1 (cursorOf cur (spanOf p charStream) + 1) (omega arith) (omega arith) refl;
       }
@@ -134,7 +135,7 @@ module _ (bytes dir cur : List ℕ) (e : Earlier) (p : ℕ) (low : 1 ≤ p) (hig
       record {
         token = token.Digits n;
         next = cursor (cursorOf cur (spanOf p digitsStream) + 4);
-        gives = ap digitsStep (four-first bytes dir cur p 7 n (omega arith) f);
+        gives = ap digitsStep (four-first rules bytes dir cur p 7 n (omega arith) f);
         same = digits-same bytes (e .text) s n;
         moved = set-past 7 4 (cursorOf cur (spanOf p digitsStream) + 4) (omega arith) (omega arith) refl;
       }
@@ -157,8 +158,8 @@ module _ (bytes dir cur : List ℕ) (e : Earlier) (p : ℕ) (low : 1 ≤ p) (hig
         token = token.Digits0 x;
         next = c;
         gives =
-            ap (λ (y : NextFour). digits0Step (paddedOf y (byteIn src p dzlenStream))) (four-first bytes dir cur p 3 n (omega (arith, small .0)) f)
-            ∙ ap (λ (y : NextByte). digits0Step (withWidth n c y)) (byte-first bytes dir cur p 4 w h)
+            ap (λ (y : NextFour). digits0Step (paddedOf y (byteIn src p dzlenStream))) (four-first rules bytes dir cur p 3 n (omega (arith, small .0)) f)
+            ∙ ap (λ (y : NextByte). digits0Step (withWidth n c y)) (byte-first rules bytes dir cur p 4 w h)
             ∙ pick-true _ _ (small .1 .0);
         same = digits0-same bytes (e .text) s x;
         moved = ap (λ (m : List ℕ). past m (spanOf p dzlenStream) 1) (set-past 3 4 (cursorOf cur (spanOf p digits0Stream) + 4) (omega arith) (omega arith) refl);
@@ -180,7 +181,7 @@ module _ (bytes dir cur : List ℕ) (e : Earlier) (p : ℕ) (low : 1 ≤ p) (hig
         token = token.Digits (rowHere e p .number + d);
         next = cursor (cursorOf cur (spanOf p ddeltaStream) + 1);
         gives =
-            pick-true _ _ has ∙ ap (deltaStep (rowHere e p .number)) (byte-first bytes dir cur p 8 d f)
+            pick-true _ _ has ∙ ap (deltaStep (rowHere e p .number)) (byte-first rules bytes dir cur p 8 d f)
             ∙ pick-true _ _ (lt-ltb (rowHere e p .number + d) (2 ^ 32) (omega arith));
         same = digits-same bytes (e .text) s (rowHere e p .number + d);
         moved = set-past 8 1 (cursorOf cur (spanOf p ddeltaStream) + 1) (omega arith) (omega arith) refl;
@@ -196,7 +197,7 @@ module _ (bytes dir cur : List ℕ) (e : Earlier) (p : ℕ) (low : 1 ≤ p) (hig
         token = token.Digits0 (record { number = rowHere e p .number + d; width = rowHere e p .width });
         next = cursor (cursorOf cur (spanOf p ddelta0Stream) + 1);
         gives =
-            pick-true _ _ has ∙ ap (delta0Step (rowHere e p .number) (rowHere e p .width)) (byte-first bytes dir cur p 9 d f)
+            pick-true _ _ has ∙ ap (delta0Step (rowHere e p .number) (rowHere e p .width)) (byte-first rules bytes dir cur p 9 d f)
             ∙ pick-true _ _ (lt-ltb (rowHere e p .number + d) (2 ^ 32) (omega (arith, small .0)))
             ∙ pick-true _ _ (small .1 .0);
         same = digits0-same bytes (e .text) s (record { number = rowHere e p .number + d; width = rowHere e p .width });

@@ -8,7 +8,8 @@ use native.Mathlib.Nat.{zero-add}
 use native.Mathlib.Numerals.{add-one}
 use borrow.Author.Tests.{leb-true, le-leb, eq-eqb}
 use lib.Dec.{leb, eqb}
-use lib.ListN.{length, getD}
+use lib.ListN.{length, getD, take}
+use lib.Seq.{take-take}
 use Rattle.base.specs.Choice.{pick}
 use Rattle.base.specs.Memory.{part}
 use Rattle.base.proofs.Choice.{pick-true, pick-false, both-true, by-test}
@@ -17,7 +18,7 @@ use Rattle.block.specs.declared.State.{State}
 use Rattle.block.specs.declared.Opened.the-variants as opened
 use Rattle.block.specs.declared.Refusal.{Refusal}
 use Rattle.block.specs.declared.Refusal.the-variants.{Plain, At}
-use Rattle.block.specs.Block.{Opening, opening, openOf, sound, starts, state}
+use Rattle.block.specs.Block.{Opening, opening, openOf, endOf, sound, starts, state}
 use Rattle.block.proofs.Laws.{sound-of, opens-fresh}
 use Rattle.kept.proofs.Laws.{fresh-counted}
 use Rattle.kept.specs.Tables.{entrySize, rowSize, Kept, keeping}
@@ -38,25 +39,27 @@ use Rattle.roundtrip.specs.Room.{listed, textWanted, rowsFor, rowsWanted
 use Rattle.roundtrip.specs.Back.{Roomy, NameIs, RowsAre, Back, InputBack, readTimes, OneByOne}
 use Rattle.roundtrip.specs.Layout.{LaidOut}
 use Rattle.roundtrip.specs.Accepted.{Accepted}
-use Rattle.roundtrip.specs.Demand.{ReadsBack, ReadsBackAmply, ReadsOneByOne, Opens, LaysOut, Nothing}
+use Rattle.roundtrip.specs.Demand.{Begins, ReadsBack, ReadsBackAmply, ReadsOneByOne, Opens, LaysOut, Nothing}
 use Rattle.roundtrip.proofs.Reading.{Reached}
 use Rattle.roundtrip.proofs.Blocks.{names-at, Whole, reads-back, calls-back, calls-done}
 use Rattle.roundtrip.proofs.Spans.{directory-length, start-is, end-is, span-size, ends-within, laid, laid-out, nothing-put}
 use Rattle.roundtrip.proofs.Inputs.{all-good, listed-length, listed-back, text-most, rows-most}
+use Rattle.tokens.specs.Types.{Rules}
 
--- good names, few enough, that were written where there was room
-module _ (names : List (List ℕ)) (fine : judgedFrom 0 names ≡ Fine) (few : length names ≤ 65536) (bytes : List ℕ) (room : totalOf (putsOf names) ≤ length bytes) where
+-- good names, few enough, and bytes that begin with what they put, written where there was room
+module _ (rules : Rules) (names : List (List ℕ)) (fine : judgedFrom 0 names ≡ Fine) (few : length names ≤ 65536) (bytes : List ℕ) (room : totalOf (putsOf rules names) ≤ length bytes)
+    (all : List ℕ) (same : Begins (totalOf (putsOf rules names)) (bytesOf (putsOf rules names) bytes) all) where
   abbrev dir : List ℕ
-  dir = directoryOf (putsOf names)
+  dir = directoryOf (putsOf rules names)
 
-  abbrev all : List ℕ
-  all = bytesOf (putsOf names) bytes
+  within : (i : ℕ) → i < 1290 → endOf dir i ≤ length all
+  within = ends-within (putsOf rules names) bytes all same room
 
   sounds : (cur : List ℕ) → length cur ≡ 1290 → sound (length all) dir cur ≡ true
   sounds cur t =
-      sound-of (length all) dir cur (directory-length (putsOf names)) t
-      (λ i h. omega (arith, start-is (putsOf names) i h, end-is (putsOf names) i h, span-size (putsOf names) i))
-      (ends-within (putsOf names) bytes room)
+      sound-of (length all) dir cur (directory-length (putsOf rules names)) t
+      (λ i h. omega (arith, start-is (putsOf rules names) i h, end-is (putsOf rules names) i h, span-size (putsOf rules names) i))
+      within
 
   -- opening accepts them
   pub opens : (cur : List ℕ) → length cur ≡ 1290 → openOf (length all) dir (length names) cur ≡ opening (opened.Fresh (state (length names) 0 0 0)) (starts dir)
@@ -67,11 +70,11 @@ module _ (names : List (List ℕ)) (fine : judgedFrom 0 names ≡ Fine) (few : l
     abbrev fresh : Kept
     fresh = keeping (state (length names) 0 0 0) text table rows
 
-    begun : Roomy names fresh → Reached all dir (starts dir) fresh [] names
+    begun : Roomy names fresh → Reached rules all dir (starts dir) fresh [] names
     unfolding putsOf rowsWanted
     begun r =
         record {
-          left = laid (putsOf names) bytes;
+          left = laid (putsOf rules names) bytes all same;
           counted = fresh-counted (length names) text table rows few;
           fits = λ i h. absurd (omega arith);
           all = sym (zero-add (length names));
@@ -83,10 +86,10 @@ module _ (names : List (List ℕ)) (fine : judgedFrom 0 names ≡ Fine) (few : l
         }
 
     abbrev result : Outcome
-    result = readsFrom all dir (length names + 1) (outcome answer.Done (starts dir) fresh)
+    result = readsFrom rules all dir (length names + 1) (outcome answer.Done (starts dir) fresh)
 
     reads : Roomy names fresh → Whole fresh [] names result
-    reads r = reads-back all dir (directory-length (putsOf names)) (ends-within (putsOf names) bytes room) names (length names + 1) answer.Done (starts dir) fresh [] (omega arith) (begun r)
+    reads r = reads-back rules all dir (directory-length (putsOf rules names)) within names (length names + 1) answer.Done (starts dir) fresh [] (omega arith) (begun r)
 
     results : Roomy names fresh → Back names result
     unfolding rowsWanted
@@ -107,28 +110,27 @@ module _ (names : List (List ℕ)) (fine : judgedFrom 0 names ≡ Fine) (few : l
         }
 
   -- reading them gives the same names back
-  pub names-back : (cur : List ℕ) (m : Kept) → length cur ≡ 1290 → Roomy names m → Back names (blockOf (source all dir cur) m (length names))
+  pub names-back : (cur : List ℕ) (m : Kept) → length cur ≡ 1290 → Roomy names m → Back names (blockOf (source rules all dir cur) m (length names))
   unfolding blockOf openedOf
   names-back cur m t r =
-      subst (λ (o : Opening). Back names (openedOf (source all dir cur) m (length names) (o .cursors) (o .answer))) (sym (opens cur t))
+      subst (λ (o : Opening). Back names (openedOf (source rules all dir cur) m (length names) (o .cursors) (o .answer))) (sym (opens cur t))
       (results (m .text) (m .names) (m .rows) (record { text = r .text; entries = r .entries; rows = r .rows }))
 
   -- and so does reading them one a call, from the cursors and the state that opening leaves
   pub calls-names : (text table rows : List ℕ) → Roomy names (keeping (state (length names) 0 0 0) text table rows)
-      → OneByOne names all dir (outcome answer.Done (starts dir) (keeping (state (length names) 0 0 0) text table rows))
+      → OneByOne rules names all dir (outcome answer.Done (starts dir) (keeping (state (length names) 0 0 0) text table rows))
   calls-names text table rows r =
-      let d = directory-length (putsOf names) in
-      let w = ends-within (putsOf names) bytes room in
+      let d = directory-length (putsOf rules names) in
       let m : Kept = keeping (state (length names) 0 0 0) text table rows in
       let o : Outcome = outcome answer.Done (starts dir) m in
-      let one : (i : ℕ) → i < length names → (readTimes all dir (suc i) o .answer ≡ answer.Kept (0 + i)) × NameIs (readTimes all dir (suc i) o .kept) (0 + i) (getD names i []) =
-      λ i h. calls-back all dir d w names i answer.Done (starts dir) m [] h (begun text table rows r) in
+      let one : (i : ℕ) → i < length names → (readTimes rules all dir (suc i) o .answer ≡ answer.Kept (0 + i)) × NameIs (readTimes rules all dir (suc i) o .kept) (0 + i) (getD names i []) =
+      λ i h. calls-back rules all dir d within names i answer.Done (starts dir) m [] h (begun text table rows r) in
+      let last = calls-done rules all dir d within names answer.Done (starts dir) m [] (begun text table rows r) in
       record {
-        answers = λ i h. ap (λ (n : ℕ). readTimes all dir n o .answer) (add-one i) ∙ one i h .0 ∙ ap answer.Kept (zero-add i);
-        keeps = λ i h. rw add-one (subst (λ (n : ℕ). NameIs (readTimes all dir (suc i) o .kept) n (getD names i [])) (zero-add i) (one i h .1));
-        done =
-            ap (λ (n : ℕ). readTimes all dir n o .answer) (add-one (length names))
-            ∙ calls-done all dir d w names answer.Done (starts dir) m [] (begun text table rows r);
+        answers = λ i h. ap (λ (n : ℕ). readTimes rules all dir n o .answer) (add-one i) ∙ one i h .0 ∙ ap answer.Kept (zero-add i);
+        keeps = λ i h. rw add-one (subst (λ (n : ℕ). NameIs (readTimes rules all dir (suc i) o .kept) n (getD names i [])) (zero-add i) (one i h .1));
+        done = ap (λ (n : ℕ). readTimes rules all dir n o .answer) (add-one (length names)) ∙ last .0;
+        count = ap (λ (n : ℕ). readTimes rules all dir n o .kept .state .names) (add-one (length names)) ∙ last .1 ∙ zero-add (length names);
       }
 
 -- room that always suffices: 255 bytes of text, an entry and 127 rows a name
@@ -145,7 +147,7 @@ refused-not {n} {total} w r e q =
     let z : Refused r ≡ Written n total = sym (ap (λ (x : Writing). x .answer) e) ∙ q in
     let y : _≡_ {A = ℕ} 0 1 = cc in omega arith
 
-module _ (input dir bytes : List ℕ) (n total : ℕ) (e : writeOf input dir bytes .answer ≡ Written n total) where
+module _ (rules : Rules) (input dir bytes : List ℕ) (n total : ℕ) (e : writeOf rules input dir bytes .answer ≡ Written n total) where
   abbrev names : List (List ℕ)
   names = namesOf input
 
@@ -153,13 +155,13 @@ module _ (input dir bytes : List ℕ) (n total : ℕ) (e : writeOf input dir byt
   unfolding countable
   counted c = let b = both-true (ended input) (leb (length names) 65536) c in (b .0, leb-true _ _ (b .1))
 
-  by-room : countable input ≡ true → judgedFrom 0 names ≡ Fine → writeOf input dir bytes ≡ laidOf names dir bytes → Accepted input dir bytes n total
+  by-room : countable input ≡ true → judgedFrom 0 names ≡ Fine → writeOf rules input dir bytes ≡ laidOf rules names dir bytes → Accepted rules input dir bytes n total
   unfolding laidOf
   by-room c f w =
-      by-test (leb (totalOf (putsOf names)) (length bytes))
+      by-test (leb (totalOf (putsOf rules names)) (length bytes))
       (λ t.
-      let q : writeOf input dir bytes ≡ writing (Written (length names) (totalOf (putsOf names))) (directoryOf (putsOf names)) (bytesOf (putsOf names) bytes) = w ∙ pick-true _ _ t in
-      let z : Written (length names) (totalOf (putsOf names)) ≡ Written n total = sym (ap (λ (x : Writing). x .answer) q) ∙ e in
+      let q : writeOf rules input dir bytes ≡ writing (Written (length names) (totalOf (putsOf rules names))) (directoryOf (putsOf rules names)) (bytesOf (putsOf rules names) bytes) = w ∙ pick-true _ _ t in
+      let z : Written (length names) (totalOf (putsOf rules names)) ≡ Written n total = sym (ap (λ (x : Writing). x .answer) q) ∙ e in
       record {
         ends = counted c .0;
         few = counted c .1;
@@ -167,88 +169,101 @@ module _ (input dir bytes : List ℕ) (n total : ℕ) (e : writeOf input dir byt
         room = leb-true _ _ t;
         names = cc;
         sum = cc;
-        is = q ∙ ap (λ (x : WriteAnswer). writing x (directoryOf (putsOf names)) (bytesOf (putsOf names) bytes)) z;
+        is = q ∙ ap (λ (x : WriteAnswer). writing x (directoryOf (putsOf rules names)) (bytesOf (putsOf rules names) bytes)) z;
       })
-      (λ t. absurd (refused-not (writeOf input dir bytes) (Plain 9) (w ∙ pick-false _ _ t) e))
+      (λ t. absurd (refused-not (writeOf rules input dir bytes) (Plain 9) (w ∙ pick-false _ _ t) e))
 
-  by-judgement : countable input ≡ true → (j : Judged) → judgedFrom 0 names ≡ j → writeOf input dir bytes ≡ judgedOf j names dir bytes → Accepted input dir bytes n total
+  by-judgement : countable input ≡ true → (j : Judged) → judgedFrom 0 names ≡ j → writeOf rules input dir bytes ≡ judgedOf rules j names dir bytes → Accepted rules input dir bytes n total
   unfolding judgedOf
   by-judgement c Fine f w = by-room c f w
-  by-judgement c (Bad k) f w = absurd (refused-not (writeOf input dir bytes) (At 8 k) w e)
+  by-judgement c (Bad k) f w = absurd (refused-not (writeOf rules input dir bytes) (At 8 k) w e)
 
-  pub accepted : Accepted input dir bytes n total
+  pub accepted : Accepted rules input dir bytes n total
   unfolding writeOf
   accepted =
       by-test (eqb (length dir) 2580)
       (λ a.
       by-test (countable input)
       (λ c. by-judgement c (judgedFrom 0 names) refl (pick-true _ _ a ∙ pick-true _ _ c))
-      (λ c. absurd (refused-not (writeOf input dir bytes) (Plain 12) (pick-true _ _ a ∙ pick-false _ _ c) e)))
-      (λ a. absurd (refused-not (writeOf input dir bytes) (Plain 1) (pick-false _ _ a) e))
+      (λ c. absurd (refused-not (writeOf rules input dir bytes) (Plain 12) (pick-true _ _ a ∙ pick-false _ _ c) e)))
+      (λ a. absurd (refused-not (writeOf rules input dir bytes) (Plain 1) (pick-false _ _ a) e))
 
   -- what was written is laid out span after span
-  pub written-laid : LaidOut (putsOf names) (writeOf input dir bytes .directory) (writeOf input dir bytes .bytes) bytes total
-  written-laid = rw (accepted .is, accepted .sum) (laid-out (putsOf names) bytes)
+  pub written-laid : LaidOut (putsOf rules names) (writeOf rules input dir bytes .directory) (writeOf rules input dir bytes .bytes) bytes total
+  written-laid = rw (accepted .is, accepted .sum) (laid-out (putsOf rules names) bytes)
 
-  -- opening what was written, with any cursor table
-  pub written-opens : (cur : List ℕ) → length cur ≡ 1290
-      → openOf (length (writeOf input dir bytes .bytes)) (writeOf input dir bytes .directory) n cur ≡ opening (opened.Fresh (state n 0 0 0)) (starts (writeOf input dir bytes .directory))
-  written-opens cur t = rw (accepted .is, accepted .names) (opens names (accepted .fine) (accepted .few) bytes (accepted .room) cur t)
+  -- bytes that begin with what was written
+  module _ (b : List ℕ) (same : Begins total (writeOf rules input dir bytes .bytes) b) where
+    begins : Begins (totalOf (putsOf rules names)) (bytesOf (putsOf rules names) bytes) b
+    begins = subst (λ (t : ℕ). Begins t (bytesOf (putsOf rules names) bytes) b) (accepted .sum) (same ∙ ap (λ (w : Writing). take total (w .bytes)) (accepted .is))
 
-  -- reading what was written, with room for the names, gives them back
-  pub written-back : (cur : List ℕ) (m : Kept) → length cur ≡ 1290 → Roomy names m
-      → InputBack input (blockOf (source (writeOf input dir bytes .bytes) (writeOf input dir bytes .directory) cur) m n)
-  written-back cur m t r =
-      let b : Back names (blockOf (source (bytesOf (putsOf names) bytes) (directoryOf (putsOf names)) cur) m (length names)) =
-      names-back names (accepted .fine) (accepted .few) bytes (accepted .room) cur m t r in
-      rw (accepted .is, accepted .names)
-      (record {
-        names = b;
-        text = b .text ∙ listed-back input (accepted .ends);
-        used = b .used ∙ sym (listed-length names) ∙ ap length (listed-back input (accepted .ends));
-      })
+    -- opening them, with any cursor table
+    pub written-opens : (cur : List ℕ) → length cur ≡ 1290
+        → openOf (length b) (writeOf rules input dir bytes .directory) n cur ≡ opening (opened.Fresh (state n 0 0 0)) (starts (writeOf rules input dir bytes .directory))
+    written-opens cur t = rw (accepted .is, accepted .names) (opens rules names (accepted .fine) (accepted .few) bytes (accepted .room) b begins cur t)
 
-  -- 255 bytes of text, an entry and 127 rows a name are always enough
-  pub written-back-most : (cur : List ℕ) (m : Kept) → length cur ≡ 1290 → 255 * n ≤ length (m .text) → entrySize * n ≤ length (m .names) → 127 * rowSize * n ≤ length (m .rows)
-      → InputBack input (blockOf (source (writeOf input dir bytes .bytes) (writeOf input dir bytes .directory) cur) m n)
-  written-back-most cur m t a b c =
-      let q : n ≡ length names = accepted .names in
-      written-back cur m t (roomy-most names m (accepted .fine) (omega arith) (omega arith) (omega arith))
+    -- reading them, with room for the names, gives the names back
+    pub written-back : (cur : List ℕ) (m : Kept) → length cur ≡ 1290 → Roomy names m
+        → InputBack input (blockOf (source rules b (writeOf rules input dir bytes .directory) cur) m n)
+    written-back cur m t r =
+        let k : Back names (blockOf (source rules b (directoryOf (putsOf rules names)) cur) m (length names)) =
+        names-back rules names (accepted .fine) (accepted .few) bytes (accepted .room) b begins cur m t r in
+        rw (accepted .is, accepted .names)
+        (record {
+          names = k;
+          text = k .text ∙ listed-back input (accepted .ends);
+          used = k .used ∙ sym (listed-length names) ∙ ap length (listed-back input (accepted .ends));
+        })
 
-  -- and one name a call
-  pub written-calls : (text table rows : List ℕ) → Roomy names (keeping (state n 0 0 0) text table rows)
-      → OneByOne names (writeOf input dir bytes .bytes) (writeOf input dir bytes .directory)
-      (outcome answer.Done (starts (writeOf input dir bytes .directory)) (keeping (state n 0 0 0) text table rows))
-  written-calls text table rows r =
-      rw (accepted .is, accepted .names)
-      (calls-names names (accepted .fine) (accepted .few) bytes (accepted .room) text table rows (record { text = r .text; entries = r .entries; rows = r .rows }))
+    -- 255 bytes of text, an entry and 127 rows a name are always enough
+    pub written-back-most : (cur : List ℕ) (m : Kept) → length cur ≡ 1290 → 255 * n ≤ length (m .text) → entrySize * n ≤ length (m .names) → 127 * rowSize * n ≤ length (m .rows)
+        → InputBack input (blockOf (source rules b (writeOf rules input dir bytes .directory) cur) m n)
+    written-back-most cur m t x y z =
+        let q : n ≡ length names = accepted .names in
+        written-back cur m t (roomy-most names m (accepted .fine) (omega arith) (omega arith) (omega arith))
+
+    -- and one name a call
+    pub written-calls : (text table rows : List ℕ) → Roomy names (keeping (state n 0 0 0) text table rows)
+        → OneByOne rules names b (writeOf rules input dir bytes .directory)
+        (outcome answer.Done (starts (writeOf rules input dir bytes .directory)) (keeping (state n 0 0 0) text table rows))
+    written-calls text table rows r =
+        rw (accepted .is, accepted .names)
+        (calls-names rules names (accepted .fine) (accepted .few) bytes (accepted .room) b begins text table rows (record { text = r .text; entries = r .entries; rows = r .rows }))
 
 -- and what is in order is accepted
-pub accepts : (input dir bytes : List ℕ) → length dir ≡ 2580 → countable input ≡ true → judgedFrom 0 (namesOf input) ≡ Fine → totalOf (putsOf (namesOf input)) ≤ length bytes
-    → writeOf input dir bytes .answer ≡ Written (length (namesOf input)) (totalOf (putsOf (namesOf input)))
+pub accepts : (rules : Rules) (input dir bytes : List ℕ) → length dir ≡ 2580 → countable input ≡ true → judgedFrom 0 (namesOf input) ≡ Fine → totalOf (putsOf rules (namesOf input)) ≤ length bytes
+    → writeOf rules input dir bytes .answer ≡ Written (length (namesOf input)) (totalOf (putsOf rules (namesOf input)))
 unfolding writeOf judgedOf laidOf
-accepts input dir bytes d c f r =
+accepts rules input dir bytes d c f r =
     ap (λ (w : Writing). w .answer)
-    (pick-true _ _ (eq-eqb _ _ d) ∙ pick-true _ _ c ∙ ap (λ (j : Judged). judgedOf j (namesOf input) dir bytes) f ∙ pick-true _ _ (le-leb _ _ r))
+    (pick-true _ _ (eq-eqb _ _ d) ∙ pick-true _ _ c ∙ ap (λ (j : Judged). judgedOf rules j (namesOf input) dir bytes) f ∙ pick-true _ _ (le-leb _ _ r))
 
 -- The demand
 
 pub reads-back-written : ReadsBack
-reads-back-written input dir bytes n total e cur m t r = written-back input dir bytes n total e cur m t r
+reads-back-written rules input dir bytes n total e b s cur m t r = written-back rules input dir bytes n total e b s cur m t r
 
 pub reads-back-amply : ReadsBackAmply
-reads-back-amply input dir bytes n total e cur m t a b c = written-back-most input dir bytes n total e cur m t a b c
+reads-back-amply rules input dir bytes n total e b s cur m t x y z = written-back-most rules input dir bytes n total e b s cur m t x y z
 
 pub reads-one-by-one : ReadsOneByOne
-reads-one-by-one input dir bytes n total e text table rows r = written-calls input dir bytes n total e text table rows r
+reads-one-by-one rules input dir bytes n total e b s text table rows r = written-calls rules input dir bytes n total e b s text table rows r
 
 pub opens-written : Opens
-opens-written input dir bytes n total e cur t = written-opens input dir bytes n total e cur t
+opens-written rules input dir bytes n total e b s cur t = written-opens rules input dir bytes n total e b s cur t
+
+-- all that writing left begins so
+pub begins-left : (total : ℕ) (all : List ℕ) → Begins total all all
+begins-left total all = refl
+
+-- and so do the bytes cut to the total
+pub begins-cut : (total : ℕ) (all : List ℕ) → Begins total all (take total all)
+begins-cut total all = take-take total total all (omega arith)
 
 pub lays-out : LaysOut
-lays-out input dir bytes n total e = written-laid input dir bytes n total e
+lays-out rules input dir bytes n total e = written-laid rules input dir bytes n total e
 
 pub writes-nothing : Nothing
 unfolding namesOf namesAfter ended judgedFrom countable pick
-writes-nothing dir bytes d =
-    accepts [] dir bytes d refl refl (omega (arith, nothing-put)) ∙ ap (Written 0) nothing-put
+writes-nothing rules dir bytes d =
+    accepts rules [] dir bytes d refl refl (omega (arith, nothing-put rules)) ∙ ap (Written 0) (nothing-put rules)

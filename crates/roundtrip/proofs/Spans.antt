@@ -4,11 +4,11 @@ use mathlib.Core.Path.{_≡_, refl, sym, ap, _∙_, subst}
 use mathlib.Core.List.{List, [], _∷_, _++_, append-assoc}
 use native.Mathlib.Omega.{arith}
 use native.Mathlib.Nat.{zero-add}
-use lib.ListN.{length, getD, drop}
+use lib.ListN.{length, getD, take, drop, length-take}
 use lib.Seq.{getD-at, drop-at}
 use Rattle.base.specs.Memory.{part, written}
 use Rattle.base.proofs.Memory.{length-written}
-use Rattle.base.proofs.Holding.{Holds, holds-written, holds-left, holds-right, holds-part}
+use Rattle.base.proofs.Holding.{Holds, holds-written, holds-left, holds-right, holds-part, holds-same}
 use Rattle.block.specs.Block.{startOf, endOf, starts}
 use Rattle.block.proofs.Laws.{starts-length, starts-cursor}
 use Rattle.laying.specs.Puts.{Put, contentOf, joined, startIn, tableOf, directoryOf, totalOf, bytesOf}
@@ -17,6 +17,7 @@ use Rattle.laying.proofs.Tables.{length-table, end-table}
 use Rattle.nameputs.specs.NamePuts.{putsFrom, putsOf}
 use Rattle.roundtrip.specs.Layout.{LaidOut}
 use Rattle.roundtrip.proofs.Eating.{Left, content-none}
+use Rattle.tokens.specs.Types.{Rules}
 
 -- a start read from a table of starts and ends
 module _ (a b : ℕ → ℕ) where
@@ -66,6 +67,11 @@ module _ (ps : List Put) where
   unfolding totalOf
   total-is = end-is 1289 (omega arith)
 
+  -- no span ends above the total
+  pub ends-below : (i : ℕ) → i < 1290 → endOf (directoryOf ps) i ≤ totalOf ps
+  unfolding totalOf startIn
+  ends-below i h = omega (arith, end-is i h, length-joined-suc (contentOf ps) i, length-joined-at (contentOf ps) i 1290 h)
+
   module _ (bytes : List ℕ) where
     pub span-holds : (i : ℕ) → i < 1290 → Holds (bytesOf ps bytes) (startIn ps i) (contentOf ps i)
     unfolding bytesOf startIn
@@ -79,10 +85,6 @@ module _ (ps : List Put) where
     pub bytes-length : totalOf ps ≤ length bytes → length (bytesOf ps bytes) ≡ length bytes
     unfolding bytesOf totalOf startIn
     bytes-length h = length-written bytes 0 (joined (contentOf ps) 0 1290) (omega arith)
-
-    pub ends-within : totalOf ps ≤ length bytes → (i : ℕ) → i < 1290 → endOf (directoryOf ps) i ≤ length (bytesOf ps bytes)
-    unfolding totalOf startIn
-    ends-within h i l = omega (arith, bytes-length h, end-is i l, length-joined-suc (contentOf ps) i, length-joined-at (contentOf ps) i 1290 l)
 
     -- and from the total on the bytes are as they were
     pub rest-stays : drop (totalOf ps) (bytesOf ps bytes) ≡ drop (totalOf ps) bytes
@@ -105,18 +107,26 @@ module _ (ps : List Put) where
           rest = rest-stays;
         }
 
-    -- with every cursor at its start the streams hold all that was put
-    pub laid : Left (bytesOf ps bytes) (directoryOf ps) (starts (directoryOf ps)) ps
-    laid =
-        let dir : List ℕ = directoryOf ps in
-        record {
-          table = starts-length dir;
-          started = λ i h. omega (arith, starts-cursor dir i h);
-          ends = λ i h. omega (arith, starts-cursor dir i h, start-is i h, end-is i h, span-size i);
-          holds = λ i h. rw (starts-cursor dir i h, start-is i h) (span-holds i h);
-        }
+    -- bytes that begin with what was written, up to the total
+    module _ (b : List ℕ) (same : take (totalOf ps) b ≡ take (totalOf ps) (bytesOf ps bytes)) where
+      pub ends-within : totalOf ps ≤ length bytes → (i : ℕ) → i < 1290 → endOf (directoryOf ps) i ≤ length b
+      ends-within h i l =
+          omega (arith, ends-below i l, bytes-length h, length-take (totalOf ps) b, length-take (totalOf ps) (bytesOf ps bytes), ap length same)
+
+      -- with every cursor at its start the streams hold all that was put
+      pub laid : Left b (directoryOf ps) (starts (directoryOf ps)) ps
+      laid =
+          let dir : List ℕ = directoryOf ps in
+          record {
+            table = starts-length dir;
+            started = λ i h. omega (arith, starts-cursor dir i h);
+            ends = λ i h. omega (arith, starts-cursor dir i h, start-is i h, end-is i h, span-size i);
+            holds = λ i h.
+                rw (starts-cursor dir i h, start-is i h)
+                (holds-same (bytesOf ps bytes) b (startIn ps i) (contentOf ps i) (totalOf ps) (sym same) (omega (arith, ends-below i h, end-is i h, span-size i)) (span-holds i h));
+          }
 
 -- no names are 0 bytes
-pub nothing-put : totalOf (putsOf []) ≡ 0
+pub nothing-put : (rules : Rules) → totalOf (putsOf rules []) ≡ 0
 unfolding putsOf putsFrom totalOf startIn
-nothing-put = length-joined-none (contentOf []) 1290 0 (λ j h k. ap length (content-none j))
+nothing-put rules = length-joined-none (contentOf []) 1290 0 (λ j h k. ap length (content-none j))

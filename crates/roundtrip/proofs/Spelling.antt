@@ -42,6 +42,7 @@ use Rattle.roundtrip.proofs.Eating.{Left, eaten, left-eaten, eaten-late
 use Rattle.roundtrip.proofs.Pieces.{piece-cut, rows-more, rows-out, count-more, count-out, count-most, length-row, length-rows}
 use Rattle.roundtrip.proofs.Leaning.{RowIs, Here, choice-right}
 use Rattle.roundtrip.proofs.Stepping.{choice-between, Resolved, resolved, ended-back, ended-past}
+use Rattle.tokens.specs.Types.{Rules}
 
 -- what SAM allows as a name, as facts
 pub record Good (s : List ℕ) : Type 0 where
@@ -125,10 +126,10 @@ part-allowed s from to h k e =
     let n : length (part s from to) ≡ to - from = length-part s from to h k in
     ap isAllowed (getD-part s from to i (omega arith)) ∙ every-at isAllowed s e (from + i) (omega arith))
 
-module _ (bytes dir cur : List ℕ) (e : Earlier) (used origin : ℕ) (r s : List ℕ) (earlier-allowed : allAllowed r ≡ true) (good : Good s)
+module _ (rules : Rules) (bytes dir cur : List ℕ) (e : Earlier) (used origin : ℕ) (r s : List ℕ) (earlier-allowed : allAllowed r ≡ true) (good : Good s)
     (text : Holds (e .text) origin r) (rest : List Put) where
   abbrev src : Source
-  src = source bytes dir cur
+  src = source rules bytes dir cur
 
   -- cursors that are those of the source from position p on
   abbrev Ahead : ℕ → List ℕ → Type 0
@@ -140,13 +141,13 @@ module _ (bytes dir cur : List ℕ) (e : Earlier) (used origin : ℕ) (r s : Lis
 
   -- with nothing left of the name, END
   end-spelt : (f n p a : ℕ) (d : Draft) → p ≤ 128 → a ≡ length s → d .text ≡ take a s → Ahead p (d .cur)
-      → Left bytes dir (d .cur) (tokenPuts s p (End ∷ []) ++ rest) → Spelt bytes dir s used n p a d rest (nameFrom src e used (suc f) p d)
+      → Left bytes dir (d .cur) (tokenPuts rules s p (End ∷ []) ++ rest) → Spelt bytes dir s used n p a d rest (nameFrom src e used (suc f) p d)
   unfolding nameFrom onward ended tokenPuts
   end-spelt f n p a d h q t ahead l =
-      let own : Left bytes dir (d .cur) (choicePuts s p End ++ rest) = subst (λ (ps : List Put). Left bytes dir (d .cur) (ps ++ rest)) (append-nil (choicePuts s p End)) l in
+      let own : Left bytes dir (d .cur) (choicePuts rules s p End ++ rest) = subst (λ (ps : List Put). Left bytes dir (d .cur) (ps ++ rest)) (append-nil (choicePuts rules s p End)) l in
       let all : d .text ≡ s = t ∙ ap (λ (k : ℕ). take k s) q ∙ take-length s in
       let z : stepAt src e p ≡ step.End =
-      step-cursors bytes dir cur (d .cur) p (here-same p (d .cur) ahead) e ∙ ended-back bytes dir (d .cur) e p s rest h own in
+      step-cursors rules bytes dir cur (d .cur) p (here-same p (d .cur) ahead) e ∙ ended-back rules bytes dir (d .cur) e p s rest h own in
       let m : length (d .text) ≡ length s = ap length all in
       record {
         draft = ended p d;
@@ -156,7 +157,7 @@ module _ (bytes dir cur : List ℕ) (e : Earlier) (used origin : ℕ) (r s : Lis
         text = all;
         rows = sym (ap (λ (l : List ℕ). d .rows ++ l) (rows-out s n p a used (omega arith)) ∙ append-nil (d .rows));
         count = omega (arith, count-out s n p a (omega arith));
-        left = ended-past bytes dir (d .cur) p s rest h own;
+        left = ended-past rules bytes dir (d .cur) p s rest h own;
       }
 
   choices-more : (f p a b : ℕ) → a < length s → choicesFrom r s (suc f) p a b ≡ choiceAt r s p a b ∷ choicesFrom r s f (p + 1) (cutAt s p a) (cutAt r p b)
@@ -171,7 +172,7 @@ module _ (bytes dir cur : List ℕ) (e : Earlier) (used origin : ℕ) (r s : Lis
   -- one token more
   module _ (f p a b : ℕ) (d : Draft) (low : 1 ≤ p) (high : p < 128) (h : a < length s) (t : d .text ≡ take a s) (ahead : Ahead p (d .cur))
       (at : RowsAt e origin r (suc f) p b)
-      (l : Left bytes dir (d .cur) (tokenPuts s p (choicesFrom r s (suc f) p a b) ++ rest)) where
+      (l : Left bytes dir (d .cur) (tokenPuts rules s p (choicesFrom r s (suc f) p a b) ++ rest)) where
     abbrev c : ℕ
     c = cutAt s p a
 
@@ -179,24 +180,24 @@ module _ (bytes dir cur : List ℕ) (e : Earlier) (used origin : ℕ) (r s : Lis
     chosen = choiceAt r s p a b
 
     abbrev later : List Put
-    later = tokenPuts s (p + 1) (choicesFrom r s f (p + 1) (cutAt s p a) (cutAt r p b)) ++ rest
+    later = tokenPuts rules s (p + 1) (choicesFrom r s f (p + 1) (cutAt s p a) (cutAt r p b)) ++ rest
 
-    now-left : Left bytes dir (d .cur) (choicePuts s p chosen ++ later)
+    now-left : Left bytes dir (d .cur) (choicePuts rules s p chosen ++ later)
     unfolding tokenPuts
     now-left =
-        subst (λ (ps : List Put). Left bytes dir (d .cur) ps) (append-assoc (choicePuts s p chosen) (tokenPuts s (p + 1) (choicesFrom r s f (p + 1) (cutAt s p a) (cutAt r p b))) rest)
-        (subst (λ (cs : List Choice). Left bytes dir (d .cur) (tokenPuts s p cs ++ rest)) (choices-more f p a b h) l)
+        subst (λ (ps : List Put). Left bytes dir (d .cur) ps) (append-assoc (choicePuts rules s p chosen) (tokenPuts rules s (p + 1) (choicesFrom r s f (p + 1) (cutAt s p a) (cutAt r p b))) rest)
+        (subst (λ (cs : List Choice). Left bytes dir (d .cur) (tokenPuts rules s p cs ++ rest)) (choices-more f p a b h) l)
 
-    token-back : Resolved bytes dir (d .cur) e p s (pieceAt s p a) chosen
+    token-back : Resolved rules bytes dir (d .cur) e p s (pieceAt s p a) chosen
     token-back =
-        resolved bytes dir (d .cur) e p s chosen later (omega arith) now-left (pieceAt s p a) low high (piece-cut s (good .allowed) a h p .small)
+        resolved rules bytes dir (d .cur) e p s chosen later (omega arith) now-left (pieceAt s p a) low high (piece-cut s (good .allowed) a h p .small)
         (choice-right e p s r a b (rows-here e origin r earlier-allowed text f p b low at))
 
     abbrev got : Token
     got = token-back .token
 
     gives : stepAt src e p ≡ step.Got got (token-back .next)
-    gives = step-cursors bytes dir cur (d .cur) p (here-same p (d .cur) ahead) e ∙ token-back .gives
+    gives = step-cursors rules bytes dir cur (d .cur) p (here-same p (d .cur) ahead) e ∙ token-back .gives
 
     prints : bytesOf bytes (e .text) got ≡ part s a c
     prints = token-back .same .prints ∙ piece-cut s (good .allowed) a h p .bytes
@@ -229,17 +230,17 @@ module _ (bytes dir cur : List ℕ) (e : Earlier) (used origin : ℕ) (r s : Lis
     unfolding grown
     more-count = refl
 
-    more-cur : more .cur ≡ eaten (d .cur) (choicePuts s p chosen)
+    more-cur : more .cur ≡ eaten (d .cur) (choicePuts rules s p chosen)
     unfolding grown
     more-cur =
-        rw (byte-in-same bytes dir cur (d .cur) p (here-same p (d .cur) ahead) 0 (omega arith)) (token-back .moved)
+        rw (byte-in-same rules bytes dir cur (d .cur) p (here-same p (d .cur) ahead) 0 (omega arith)) (token-back .moved)
 
     more-left : Left bytes dir (more .cur) later
-    more-left = rw more-cur (left-eaten bytes dir (d .cur) p (p + 1) (choicePuts s p chosen) later (omega arith) (choice-between s p chosen) now-left)
+    more-left = rw more-cur (left-eaten bytes dir (d .cur) p (p + 1) (choicePuts rules s p chosen) later (omega arith) (choice-between rules s p chosen) now-left)
 
     more-ahead : Ahead (p + 1) (more .cur)
     more-ahead j k =
-        ap (λ (x : List ℕ). cursorOf x j) more-cur ∙ eaten-later (d .cur) p (p + 1) (choicePuts s p chosen) (choice-between s p chosen) j k ∙ ahead j (omega arith)
+        ap (λ (x : List ℕ). cursorOf x j) more-cur ∙ eaten-later (d .cur) p (p + 1) (choicePuts rules s p chosen) (choice-between rules s p chosen) j k ∙ ahead j (omega arith)
 
     onward-more : nameFrom src e used (suc (suc f)) p d ≡ nameFrom src e used (suc f) (p + 1) more
     unfolding nameFrom onward
@@ -263,11 +264,11 @@ module _ (bytes dir cur : List ℕ) (e : Earlier) (used origin : ℕ) (r s : Lis
         }
 
   pub spelt : (f p a b : ℕ) (d : Draft) → p + f ≡ 128 → 1 ≤ p → a ≤ length s → (a < length s → 1 ≤ f) → d .text ≡ take a s → Ahead p (d .cur)
-      → RowsAt e origin r f p b → Left bytes dir (d .cur) (tokenPuts s p (choicesFrom r s f p a b) ++ rest)
+      → RowsAt e origin r f p b → Left bytes dir (d .cur) (tokenPuts rules s p (choicesFrom r s f p a b) ++ rest)
       → Spelt bytes dir s used f p a d rest (nameFrom src e used (suc f) p d)
   spelt zero p a b d q low h k t ahead at l =
       let out : length s ≤ a = ⊎-elim (λ (g : a < length s). absurd (omega (arith, k g))) (λ g. g) (lt-or-ge a (length s)) in
-      end-spelt 0 0 p a d (omega arith) (omega arith) t ahead (subst (λ (cs : List Choice). Left bytes dir (d .cur) (tokenPuts s p cs ++ rest)) (choices-out 0 p a b out) l)
+      end-spelt 0 0 p a d (omega arith) (omega arith) t ahead (subst (λ (cs : List Choice). Left bytes dir (d .cur) (tokenPuts rules s p cs ++ rest)) (choices-out 0 p a b out) l)
   spelt (suc f) p a b d q low h k t ahead at l =
       ⊎-elim
       (λ (g : a < length s).
@@ -281,7 +282,7 @@ module _ (bytes dir cur : List ℕ) (e : Earlier) (used origin : ℕ) (r s : Lis
       (more-left f p a b d low (omega arith) g t ahead at l)))
       (λ (g : length s ≤ a).
       end-spelt (suc f) (suc f) p a d (omega arith) (omega arith) t ahead
-      (subst (λ (cs : List Choice). Left bytes dir (d .cur) (tokenPuts s p cs ++ rest)) (choices-out (suc f) p a b g) l))
+      (subst (λ (cs : List Choice). Left bytes dir (d .cur) (tokenPuts rules s p cs ++ rest)) (choices-out (suc f) p a b g) l))
       (lt-or-ge a (length s))
 
 -- the rows of an earlier name are those of r's split; r's text, where they point, stands below `used`
@@ -299,12 +300,12 @@ rows-at e used r o =
     record { rows = subst (λ (k : ℕ). Holds (e .rows) k (splitRows r (o .origin))) n (o .rows); many = λ h. omega (arith, o .many) }
 
 -- a name read back, after an earlier one that is r
-pub name-back : (bytes dir cur now : List ℕ) (e : Earlier) (used : ℕ) (r s : List ℕ) (rest : List Put) → allAllowed r ≡ true → Good s → RowsOf e used r
-    → ((j : ℕ) → 10 ≤ j → cursorOf now j ≡ cursorOf cur j) → Left bytes dir now (tokenPuts s 1 (choicesOf r s) ++ rest)
-    → Spelt bytes dir s used 127 1 0 (draft [] [] 0 now) rest (nameOf (source bytes dir cur) e used now)
+pub name-back : (rules : Rules) (bytes dir cur now : List ℕ) (e : Earlier) (used : ℕ) (r s : List ℕ) (rest : List Put) → allAllowed r ≡ true → Good s → RowsOf e used r
+    → ((j : ℕ) → 10 ≤ j → cursorOf now j ≡ cursorOf cur j) → Left bytes dir now (tokenPuts rules s 1 (choicesOf r s) ++ rest)
+    → Spelt bytes dir s used 127 1 0 (draft [] [] 0 now) rest (nameOf (source rules bytes dir cur) e used now)
 unfolding nameOf choicesOf
-name-back bytes dir cur now e used r s rest allowed good o ahead l =
-    spelt bytes dir cur e used (o .origin) r s allowed good (o .text) rest 127 1 0 0 (draft [] [] 0 now)
+name-back rules bytes dir cur now e used r s rest allowed good o ahead l =
+    spelt rules bytes dir cur e used (o .origin) r s allowed good (o .text) rest 127 1 0 0 (draft [] [] 0 now)
     refl (omega arith) (omega arith) (λ h. omega arith) refl (λ j h. ahead j (omega arith)) (rows-at e used r o) l
 
 pub tokens-most : (r : List ℕ) → tokensIn r ≤ 127

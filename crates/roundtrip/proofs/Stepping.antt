@@ -23,13 +23,13 @@ use Rattle.bars.specs.Bars.{barred}
 use Rattle.bars.proofs.Laws.{unbarred-before, unbarred-end}
 use Rattle.steps.proofs.Forward.{step-typed}
 use Rattle.moving.specs.Moves.{past, valuePast}
-use Rattle.names.specs.Names.{typeIn}
+use Rattle.names.specs.Names.{typeAt, typeIn}
 use Rattle.laying.specs.Puts.{Put, put}
 use Rattle.pieces.specs.declared.Piece.{Piece}
 use Rattle.pieces.specs.declared.Piece.the-variants.{String, Char, Digits, Digits0}
 use Rattle.choices.specs.declared.Choice.{Choice}
 use Rattle.choices.specs.declared.Choice.the-variants.{Itself, Delta, Delta0, Match, End}
-use Rattle.tokens.specs.Types.{typeNumber}
+use Rattle.tokens.specs.Types.{Rules, typeNumber}
 use Rattle.tokenputs.specs.TokenPuts.{pieceType, choiceType, choicePuts}
 use Rattle.valueputs.specs.ValuePuts.{piecePuts, valuePuts}
 use Rattle.roundtrip.proofs.Eating.{Left, first, eat, eaten, Between}
@@ -54,23 +54,23 @@ value-between s p (Delta0 d) = (omega arith, tt)
 value-between s p Match = tt
 value-between s p End = tt
 
-pub choice-between : (s : List ℕ) (p : ℕ) (c : Choice) → Between p (p + 1) (choicePuts s p c)
+pub choice-between : (rules : Rules) (s : List ℕ) (p : ℕ) (c : Choice) → Between p (p + 1) (choicePuts rules s p c)
 unfolding Between choicePuts spanOf
-choice-between s p c = (omega arith, value-between s p c)
+choice-between rules s p c = (omega arith, value-between s p c)
 
-module _ (bytes dir cur : List ℕ) (e : Earlier) (p : ℕ) (low : 1 ≤ p) (high : p < 128) (s : List ℕ) (rest : List Put) (k : Cursor) where
+module _ (rules : Rules) (bytes dir cur : List ℕ) (e : Earlier) (p : ℕ) (low : 1 ≤ p) (high : p < 128) (s : List ℕ) (rest : List Put) (k : Cursor) where
   choice-valued : (c : Choice) (x : Piece) → Small s x → Right e p s x c → Left bytes dir (past cur (spanOf p 0) 1) (valuePuts s p c ++ rest)
-      → Valued (source bytes dir cur) e p (past cur (spanOf p 0) 1) k (choiceType c) (valuePuts s p c) s x
+      → Valued (source rules bytes dir cur) e p (past cur (spanOf p 0) 1) k (choiceType c) (valuePuts s p c) s x
   unfolding choiceType valuePuts valueStep matchAt valuePast eaten
   choice-valued (Itself t) x small right l =
-      subst (λ (y : Piece). Valued (source bytes dir cur) e p (past cur (spanOf p 0) 1) k (pieceType t) (piecePuts s p t) s y) right
-      (piece-valued bytes dir cur e p low high s rest k t (subst (Small s) (sym right) small) l)
+      subst (λ (y : Piece). Valued (source rules bytes dir cur) e p (past cur (spanOf p 0) 1) k (pieceType t) (piecePuts s p t) s y) right
+      (piece-valued rules bytes dir cur e p low high s rest k t (subst (Small s) (sym right) small) l)
   choice-valued (Delta d) x small right l =
-      subst (λ (y : Piece). Valued (source bytes dir cur) e p (past cur (spanOf p typeStream) 1) k type.Delta (put (spanOf p ddeltaStream) (d ∷ []) ∷ []) s y) (right .1)
-      (delta-valued bytes dir cur e p low high s rest k d (right .0) (subst (Small s) (sym (right .1)) small) l)
+      subst (λ (y : Piece). Valued (source rules bytes dir cur) e p (past cur (spanOf p typeStream) 1) k type.Delta (put (spanOf p ddeltaStream) (d ∷ []) ∷ []) s y) (right .1)
+      (delta-valued rules bytes dir cur e p low high s rest k d (right .0) (subst (Small s) (sym (right .1)) small) l)
   choice-valued (Delta0 d) x small right l =
-      subst (λ (y : Piece). Valued (source bytes dir cur) e p (past cur (spanOf p typeStream) 1) k type.Delta0 (put (spanOf p ddelta0Stream) (d ∷ []) ∷ []) s y) (right .1)
-      (delta0-valued bytes dir cur e p low high s rest k d (right .0) (subst (Small s) (sym (right .1)) small) l)
+      subst (λ (y : Piece). Valued (source rules bytes dir cur) e p (past cur (spanOf p typeStream) 1) k type.Delta0 (put (spanOf p ddelta0Stream) (d ∷ []) ∷ []) s y) (right .1)
+      (delta0-valued rules bytes dir cur e p low high s rest k d (right .0) (subst (Small s) (sym (right .1)) small) l)
   choice-valued Match x small right l =
       let r = repeated bytes (e .text) (rowHere e p) s x (right .1) in
       record {
@@ -82,35 +82,51 @@ module _ (bytes dir cur : List ℕ) (e : Earlier) (p : ℕ) (low : 1 ≤ p) (hig
       }
   choice-valued End x small right l = absurd right
 
+-- the writer's types are all in the table
+piece-known : (x : Piece) → pieceType x ≡ type.Other → ⊥
+unfolding pieceType
+piece-known (String a e) q = let z : _≡_ {A = ℕ} 0 1 = cc in omega arith
+piece-known (Char b) q = let z : _≡_ {A = ℕ} 0 1 = cc in omega arith
+piece-known (Digits n) q = let z : _≡_ {A = ℕ} 0 1 = cc in omega arith
+piece-known (Digits0 x) q = let z : _≡_ {A = ℕ} 0 1 = cc in omega arith
+
+choice-known : (c : Choice) → choiceType c ≡ type.Other → ⊥
+unfolding choiceType
+choice-known (Itself x) q = piece-known x q
+choice-known (Delta d) q = let z : _≡_ {A = ℕ} 0 1 = cc in omega arith
+choice-known (Delta0 d) q = let z : _≡_ {A = ℕ} 0 1 = cc in omega arith
+choice-known Match q = let z : _≡_ {A = ℕ} 0 1 = cc in omega arith
+choice-known End q = let z : _≡_ {A = ℕ} 0 1 = cc in omega arith
+
 -- a token read back
-pub record Resolved (bytes dir cur : List ℕ) (e : Earlier) (p : ℕ) (s : List ℕ) (x : Piece) (c : Choice) : Type 0 where
+pub record Resolved (rules : Rules) (bytes dir cur : List ℕ) (e : Earlier) (p : ℕ) (s : List ℕ) (x : Piece) (c : Choice) : Type 0 where
   pub token : Token
   pub next : Cursor
-  pub gives : stepAt (source bytes dir cur) e p ≡ step.Got token next
+  pub gives : stepAt (source rules bytes dir cur) e p ≡ step.Got token next
   pub same : Same bytes (e .text) s x token
-  pub moved : valuePast (typeIn (byteIn (source bytes dir cur) p 0)) p (next .0) (past cur (spanOf p 0) 1) ≡ eaten cur (choicePuts s p c)
+  pub moved : valuePast (typeAt (source rules bytes dir cur) p) p (next .0) (past cur (spanOf p 0) 1) ≡ eaten cur (choicePuts rules s p c)
 
-module _ (bytes dir cur : List ℕ) (e : Earlier) (p : ℕ) (s : List ℕ) (c : Choice) (rest : List Put) (high : p ≤ 128) (l : Left bytes dir cur (choicePuts s p c ++ rest)) where
+module _ (rules : Rules) (bytes dir cur : List ℕ) (e : Earlier) (p : ℕ) (s : List ℕ) (c : Choice) (rest : List Put) (high : p ≤ 128) (l : Left bytes dir cur (choicePuts rules s p c ++ rest)) where
   abbrev number : ℕ
-  number = typeNumber (choiceType c)
+  number = typeNumber (rules .numbers) (choiceType c)
 
-  type-here : byteIn (source bytes dir cur) p 0 ≡ byte.Value number (cursor (cursorOf cur (spanOf p 0) + 1))
+  type-here : byteIn (source rules bytes dir cur) p 0 ≡ byte.Value number (cursor (cursorOf cur (spanOf p 0) + 1))
   unfolding choicePuts
-  type-here = byte-first bytes dir cur p 0 number (first bytes dir cur (spanOf p 0) (number ∷ []) (valuePuts s p c ++ rest) (span-below p 0 high (omega arith)) l)
+  type-here = byte-first rules bytes dir cur p 0 number (first bytes dir cur (spanOf p 0) (number ∷ []) (valuePuts s p c ++ rest) (span-below p 0 high (omega arith)) l)
 
-  typed : barred p (choiceType c) ≡ false → stepAt (source bytes dir cur) e p ≡ valueStep (source bytes dir cur) e p (cursor (cursorOf cur (spanOf p 0) + 1)) (choiceType c)
-  typed b = step-typed (source bytes dir cur) e p type-here (choiceType c) (type-back (choiceType c)) b
+  typed : barred p (choiceType c) ≡ false → stepAt (source rules bytes dir cur) e p ≡ valueStep (source rules bytes dir cur) e p (cursor (cursorOf cur (spanOf p 0) + 1)) (choiceType c)
+  typed b = step-typed (source rules bytes dir cur) e p type-here (choiceType c) (type-back (rules .numbers) (choiceType c) (choice-known c)) b
 
-  type-in : typeIn (byteIn (source bytes dir cur) p 0) ≡ choiceType c
+  type-in : typeAt (source rules bytes dir cur) p ≡ choiceType c
   unfolding typeIn
-  type-in = ap typeIn type-here ∙ type-back (choiceType c)
+  type-in = ap (typeIn (rules .numbers)) type-here ∙ type-back (rules .numbers) (choiceType c) (choice-known c)
 
-  pub resolved : (x : Piece) → 1 ≤ p → p < 128 → Small s x → Right e p s x c → Resolved bytes dir cur e p s x c
+  pub resolved : (x : Piece) → 1 ≤ p → p < 128 → Small s x → Right e p s x c → Resolved rules bytes dir cur e p s x c
   unfolding choicePuts eaten
   resolved x low below small right =
       let k : Cursor = cursor (cursorOf cur (spanOf p 0) + 1) in
-      let v : Valued (source bytes dir cur) e p (past cur (spanOf p 0) 1) k (choiceType c) (valuePuts s p c) s x =
-      choice-valued bytes dir cur e p low below s rest k c x small right
+      let v : Valued (source rules bytes dir cur) e p (past cur (spanOf p 0) 1) k (choiceType c) (valuePuts s p c) s x =
+      choice-valued rules bytes dir cur e p low below s rest k c x small right
       (eat bytes dir cur (spanOf p 0) (number ∷ []) (valuePuts s p c ++ rest) (span-below p 0 high (omega arith)) l) in
       record {
         token = v .token;
@@ -121,12 +137,12 @@ module _ (bytes dir cur : List ℕ) (e : Earlier) (p : ℕ) (s : List ℕ) (c : 
       }
 
 -- END read back
-pub ended-back : (bytes dir cur : List ℕ) (e : Earlier) (p : ℕ) (s : List ℕ) (rest : List Put) → p ≤ 128 → Left bytes dir cur (choicePuts s p End ++ rest)
-    → stepAt (source bytes dir cur) e p ≡ step.End
+pub ended-back : (rules : Rules) (bytes dir cur : List ℕ) (e : Earlier) (p : ℕ) (s : List ℕ) (rest : List Put) → p ≤ 128 → Left bytes dir cur (choicePuts rules s p End ++ rest)
+    → stepAt (source rules bytes dir cur) e p ≡ step.End
 unfolding choiceType valueStep
-ended-back bytes dir cur e p s rest high l = typed bytes dir cur e p s End rest high l (unbarred-end p)
+ended-back rules bytes dir cur e p s rest high l = typed rules bytes dir cur e p s End rest high l (unbarred-end p)
 
-pub ended-past : (bytes dir cur : List ℕ) (p : ℕ) (s : List ℕ) (rest : List Put) → p ≤ 128 → Left bytes dir cur (choicePuts s p End ++ rest)
+pub ended-past : (rules : Rules) (bytes dir cur : List ℕ) (p : ℕ) (s : List ℕ) (rest : List Put) → p ≤ 128 → Left bytes dir cur (choicePuts rules s p End ++ rest)
     → Left bytes dir (past cur (spanOf p 0) 1) rest
 unfolding choicePuts valuePuts
-ended-past bytes dir cur p s rest high l = eat bytes dir cur (spanOf p 0) (typeNumber (choiceType End) ∷ []) rest (span-below p 0 high (omega arith)) l
+ended-past rules bytes dir cur p s rest high l = eat bytes dir cur (spanOf p 0) (typeNumber (rules .numbers) (choiceType End) ∷ []) rest (span-below p 0 high (omega arith)) l

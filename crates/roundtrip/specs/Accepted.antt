@@ -10,12 +10,13 @@ use Rattle.writing.specs.declared.WriteAnswer.the-variants.{Written}
 use Rattle.inputs.specs.Inputs.{namesOf, ended, judgedFrom}
 use Rattle.nameputs.specs.NamePuts.{putsOf}
 use Rattle.writing.specs.Writes.{writing, writeOf}
+use Rattle.tokens.specs.Types.{Rules}
 
-pub record Accepted (input dir bytes : List ℕ) (n total : ℕ) : Type 0 where
+pub record Accepted (rules : Rules) (input dir bytes : List ℕ) (n total : ℕ) : Type 0 where
   pub ends : ended input ≡ true
   pub few : length (namesOf input) ≤ 65536
   pub fine : judgedFrom 0 (namesOf input) ≡ Fine
-  pub room : totalOf (putsOf (namesOf input)) ≤ length bytes
+  pub room : totalOf (putsOf rules (namesOf input)) ≤ length bytes
   pub names : n ≡ length (namesOf input)
-  pub sum : total ≡ totalOf (putsOf (namesOf input))
-  pub is : writeOf input dir bytes ≡ writing (Written n total) (directoryOf (putsOf (namesOf input))) (bytesOf (putsOf (namesOf input)) bytes)
+  pub sum : total ≡ totalOf (putsOf rules (namesOf input))
+  pub is : writeOf rules input dir bytes ≡ writing (Written n total) (directoryOf (putsOf rules (namesOf input))) (bytesOf (putsOf rules (namesOf input)) bytes)

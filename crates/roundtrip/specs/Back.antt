@@ -12,6 +12,7 @@ use Rattle.reads.specs.Reads.{readOf}
 use Rattle.inputs.specs.Inputs.{namesOf}
 use Rattle.roundtrip.specs.Rows.{splitRows, tokensIn}
 use Rattle.roundtrip.specs.Room.{listed, textWanted, rowsWanted}
+use Rattle.tokens.specs.Types.{Rules}
 
 -- there is room for names: their text with the byte 10 of each, an entry a name, and a row for each that they add
 pub record Roomy (names : List (List ℕ)) (m : Kept) : Type 0 where
@@ -48,12 +49,13 @@ pub record InputBack (input : List ℕ) (o : Outcome) : Type 0 where
   pub used : o .kept .state .text ≡ length input
 
 -- n reads, one after another
-unfoldable pub readTimes : List ℕ → List ℕ → ℕ → Outcome → Outcome
-readTimes bytes dir zero o = o
-readTimes bytes dir (suc n) o = readTimes bytes dir n (readOf (source bytes dir (o .cur)) (o .kept))
+unfoldable pub readTimes : Rules → List ℕ → List ℕ → ℕ → Outcome → Outcome
+readTimes rules bytes dir zero o = o
+readTimes rules bytes dir (suc n) o = readTimes rules bytes dir n (readOf (source rules bytes dir (o .cur)) (o .kept))
 
--- names read one a call: read i, from 0 on, answers i and keeps name i, and one more read is done
-pub record OneByOne (names : List (List ℕ)) (bytes dir : List ℕ) (o : Outcome) : Type 0 where
-  pub answers : (i : ℕ) → i < length names → readTimes bytes dir (i + 1) o .answer ≡ answer.Kept i
-  pub keeps : (i : ℕ) → i < length names → NameIs (readTimes bytes dir (i + 1) o .kept) i (getD names i [])
-  pub done : readTimes bytes dir (length names + 1) o .answer ≡ answer.Done
+-- names read one a call: read i, from 0 on, answers i and keeps name i, and one more read is done, with all of them kept and no others
+pub record OneByOne (rules : Rules) (names : List (List ℕ)) (bytes dir : List ℕ) (o : Outcome) : Type 0 where
+  pub answers : (i : ℕ) → i < length names → readTimes rules bytes dir (i + 1) o .answer ≡ answer.Kept i
+  pub keeps : (i : ℕ) → i < length names → NameIs (readTimes rules bytes dir (i + 1) o .kept) i (getD names i [])
+  pub done : readTimes rules bytes dir (length names + 1) o .answer ≡ answer.Done
+  pub count : readTimes rules bytes dir (length names + 1) o .kept .state .names ≡ length names

@@ -2,7 +2,7 @@
 use Prim.Native.Nat.{ℕ, _*_, _≤_}
 use mathlib.Core.Path.{_≡_}
 use mathlib.Core.List.{List, []}
-use lib.ListN.{length}
+use lib.ListN.{length, take}
 use Rattle.block.specs.declared.Opened.the-variants as opened
 use Rattle.block.specs.Block.{state, starts, opening, openOf}
 use Rattle.kept.specs.Tables.{entrySize, rowSize, Kept, keeping}
@@ -16,44 +16,53 @@ use Rattle.writing.specs.Writes.{writeOf}
 use Rattle.nameputs.specs.NamePuts.{putsOf}
 use Rattle.roundtrip.specs.Layout.{LaidOut}
 use Rattle.roundtrip.specs.Back.{Roomy, InputBack, OneByOne}
+use Rattle.tokens.specs.Types.{Rules}
 
--- whatever writing accepts: a whole-block read of the bytes and the directory that it leaves, with any cursor table of the right length
--- and room for the names, gives the names back
+-- bytes that begin with the first so many of those written, whatever comes after them: those that writing left, and a buffer cut to the total
+abbrev pub Begins : ℕ → List ℕ → List ℕ → Type 0
+Begins total all b = take total b ≡ take total all
+
+-- whatever writing accepts: a whole-block read of bytes that begin with the total that it wrote and of the directory that it leaves,
+-- with any cursor table of the right length and room for the names, gives the names back
 abbrev pub ReadsBack : Type 0
 ReadsBack =
-    (input dir bytes : List ℕ) (n total : ℕ) → writeOf input dir bytes .answer ≡ Written n total
+    (rules : Rules) (input dir bytes : List ℕ) (n total : ℕ) → writeOf rules input dir bytes .answer ≡ Written n total
+    → (b : List ℕ) → Begins total (writeOf rules input dir bytes .bytes) b
     → (cur : List ℕ) (m : Kept) → length cur ≡ 1290 → Roomy (namesOf input) m
-    → InputBack input (blockOf (source (writeOf input dir bytes .bytes) (writeOf input dir bytes .directory) cur) m n)
+    → InputBack input (blockOf (source rules b (writeOf rules input dir bytes .directory) cur) m n)
 
 -- 255 bytes of text, an entry and 127 rows for each name are always room enough
 abbrev pub ReadsBackAmply : Type 0
 ReadsBackAmply =
-    (input dir bytes : List ℕ) (n total : ℕ) → writeOf input dir bytes .answer ≡ Written n total
+    (rules : Rules) (input dir bytes : List ℕ) (n total : ℕ) → writeOf rules input dir bytes .answer ≡ Written n total
+    → (b : List ℕ) → Begins total (writeOf rules input dir bytes .bytes) b
     → (cur : List ℕ) (m : Kept) → length cur ≡ 1290 → 255 * n ≤ length (m .text) → entrySize * n ≤ length (m .names) → 127 * rowSize * n ≤ length (m .rows)
-    → InputBack input (blockOf (source (writeOf input dir bytes .bytes) (writeOf input dir bytes .directory) cur) m n)
+    → InputBack input (blockOf (source rules b (writeOf rules input dir bytes .directory) cur) m n)
 
 -- and so does reading one name a call, from the state and the cursors that opening leaves
 abbrev pub ReadsOneByOne : Type 0
 ReadsOneByOne =
-    (input dir bytes : List ℕ) (n total : ℕ) → writeOf input dir bytes .answer ≡ Written n total
+    (rules : Rules) (input dir bytes : List ℕ) (n total : ℕ) → writeOf rules input dir bytes .answer ≡ Written n total
+    → (b : List ℕ) → Begins total (writeOf rules input dir bytes .bytes) b
     → (text table rows : List ℕ) → Roomy (namesOf input) (keeping (state n 0 0 0) text table rows)
-    → OneByOne (namesOf input) (writeOf input dir bytes .bytes) (writeOf input dir bytes .directory)
-    (outcome answer.Done (starts (writeOf input dir bytes .directory)) (keeping (state n 0 0 0) text table rows))
+    → OneByOne rules (namesOf input) b (writeOf rules input dir bytes .directory)
+    (outcome answer.Done (starts (writeOf rules input dir bytes .directory)) (keeping (state n 0 0 0) text table rows))
 
 -- opening accepts what writing wrote, with any cursor table of the right length
 abbrev pub Opens : Type 0
 Opens =
-    (input dir bytes : List ℕ) (n total : ℕ) → writeOf input dir bytes .answer ≡ Written n total
+    (rules : Rules) (input dir bytes : List ℕ) (n total : ℕ) → writeOf rules input dir bytes .answer ≡ Written n total
+    → (b : List ℕ) → Begins total (writeOf rules input dir bytes .bytes) b
     → (cur : List ℕ) → length cur ≡ 1290
-    → openOf (length (writeOf input dir bytes .bytes)) (writeOf input dir bytes .directory) n cur
-    ≡ opening (opened.Fresh (state n 0 0 0)) (starts (writeOf input dir bytes .directory))
+    → openOf (length b) (writeOf rules input dir bytes .directory) n cur
+    ≡ opening (opened.Fresh (state n 0 0 0)) (starts (writeOf rules input dir bytes .directory))
 
 -- and what it wrote is laid out as the paper says; its total is the end of the last span, not any number
 abbrev pub LaysOut : Type 0
 LaysOut =
-    (input dir bytes : List ℕ) (n total : ℕ) → writeOf input dir bytes .answer ≡ Written n total
-    → LaidOut (putsOf (namesOf input)) (writeOf input dir bytes .directory) (writeOf input dir bytes .bytes) bytes total
+    (rules : Rules) (input dir bytes : List ℕ) (n total : ℕ) → writeOf rules input dir bytes .answer ≡ Written n total
+    → LaidOut (putsOf rules (namesOf input)) (writeOf rules input dir bytes .directory) (writeOf rules input dir bytes .bytes) bytes total
 
 -- "No names: writing gives 0 bytes", with any directory of the right length and any bytes, none too
 abbrev pub Nothing : Type 0
-Nothing = (dir bytes : List ℕ) → length dir ≡ 2580 → writeOf [] dir bytes .answer ≡ Written 0 0
+Nothing = (rules : Rules) (dir bytes : List ℕ) → length dir ≡ 2580 → writeOf rules [] dir bytes .answer ≡ Written 0 0

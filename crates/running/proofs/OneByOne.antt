@@ -18,6 +18,7 @@ use Rattle.block.specs.Open.{Open}
 use Rattle.tokens.specs.declared.TokenType.the-variants as type
 use Rattle.tokens.specs.declared.Token.{Token}
 use Rattle.tokens.specs.Tokens.{bytesOf, rowOf}
+use Rattle.tokens.specs.Types.{Rules}
 use Rattle.kept.specs.Tables.{rowSize, rowAt}
 use Rattle.values.specs.declared.Step.the-variants as step
 use Rattle.sources.specs.Source.{Source, source, Earlier, byteIn}
@@ -28,7 +29,7 @@ use Rattle.steps.proofs.Forward.{step-match}
 use Rattle.steps.proofs.Frame.{byte-in-same}
 use Rattle.names.specs.declared.Judged.{Judged}
 use Rattle.names.specs.declared.Judged.the-variants as judged
-use Rattle.names.specs.Names.{Draft, draft, named, refused, typeIn, grown, printable, onward, nameFrom}
+use Rattle.names.specs.Names.{Draft, draft, named, refused, typeIn, typeAt, grown, printable, onward, nameFrom}
 use Rattle.moving.specs.Moves.{past, valuePast}
 use Rattle.repeating.specs.Repeats.{Spelt, RowsSpelt}
 use Rattle.runs.specs.Runs.{isMatch}
@@ -42,21 +43,21 @@ use Rattle.repeating.proofs.Repeating.{textSize}
 
 -- one MATCH against a spelt row
 module _ (s : Source) (e : Earlier) (used : ℕ) (k : Rows used e) (spelt : RowsSpelt e) (p i : ℕ) (low : 1 ≤ p) (there : p ≤ e .count) (is : i ≡ e .first + (p - 1))
-    (m : isMatch (typeIn (byteIn s p 0)) ≡ true) where
+    (m : isMatch (typeAt s p) ≡ true) where
   abbrev token : Token
   token = tokenOf (e .text) (rowAt (e .rows) i)
 
   abbrev next : Cursor
-  next = matched (byteIn s p 0) m .next
+  next = matched (s .rules .numbers) (byteIn s p 0) m .next
 
   steps : stepAt s e p ≡ step.Got token next
   steps =
       let h = k .most in
-      step-match s e p (matched (byteIn s p 0) m .is) (omega arith) there (matched (byteIn s p 0) m .typed)
+      step-match s e p (matched (s .rules .numbers) (byteIn s p 0) m .is) (omega arith) there (matched (s .rules .numbers) (byteIn s p 0) m .typed)
       ∙ ap (λ (j : ℕ). step.Got (tokenOf (e .text) (rowAt (e .rows) j)) next) (sym is)
 
-  typed : typeIn (byteIn s p 0) ≡ type.Match
-  typed = only-match (typeIn (byteIn s p 0)) m
+  typed : typeAt s p ≡ type.Match
+  typed = only-match (typeAt s p) m
 
   here : Spelt (e .text) (rowAt (e .rows) i)
   here = spelt .each i (omega arith) (omega arith)
@@ -83,7 +84,7 @@ module _ (s : Source) (e : Earlier) (used : ℕ) (k : Rows used e) (spelt : Rows
 -- MATCHes one by one
 module _ (s : Source) (e : Earlier) (used : ℕ) (k : Rows used e) (spelt : RowsSpelt e) where
   pub judge-run : (n p i f g len c q l d : ℕ) (all : Judged) → i ≡ e .first + (p - 1) → 1 ≤ p → p + n ≤ e .count + 1
-      → ((j : ℕ) → p ≤ j → j < p + n → isMatch (typeIn (byteIn s j 0)) ≡ true)
+      → ((j : ℕ) → p ≤ j → j < p + n → isMatch (typeAt s j) ≡ true)
       → f ≡ n + g → q ≡ p + n → l ≡ len + textSize (e .rows) i n → d ≡ c + n → l ≤ 254
       → judgeFrom s e f p len c ≡ all → judgeFrom s e g q l d ≡ all
   unfolding textSize
@@ -102,7 +103,7 @@ module _ (s : Source) (e : Earlier) (used : ℕ) (k : Rows used e) (spelt : Rows
       (goes s e f (n + g) p len c all (omega arith) inv (steps s e used k spelt p i low (omega arith) is h) z w refl)
 
   pub judge-long : (n p i f g len c : ℕ) (all : Judged) → i ≡ e .first + (p - 1) → 1 ≤ p → p + n ≤ e .count + 1
-      → ((j : ℕ) → p ≤ j → j < p + n → isMatch (typeIn (byteIn s j 0)) ≡ true)
+      → ((j : ℕ) → p ≤ j → j < p + n → isMatch (typeAt s j) ≡ true)
       → f ≡ n + g → len ≤ 254 → 254 < len + textSize (e .rows) i n
       → judgeFrom s e f p len c ≡ all → judged.Refused 8 ≡ all
   unfolding textSize
@@ -145,7 +146,7 @@ module _ (s : Source) (e : Earlier) (used : ℕ) (k : Rows used e) (spelt : Rows
   behind zero i h l = part-none (e .text) _ _ (omega arith) ∙ sym (part-none (e .text) _ _ (omega arith))
   behind (suc n) i h l = rw (spelt .laid i h (omega arith))
 
-  module _ (p i n : ℕ) (low : 1 ≤ p) (there : p ≤ e .count) (few : p + n ≤ e .count) (is : i ≡ e .first + (p - 1)) (m : isMatch (typeIn (byteIn s p 0)) ≡ true) (d : Draft) where
+  module _ (p i n : ℕ) (low : 1 ≤ p) (there : p ≤ e .count) (few : p + n ≤ e .count) (is : i ≡ e .first + (p - 1)) (m : isMatch (typeAt s p) ≡ true) (d : Draft) where
     abbrev said : List ℕ
     said = bytesOf (s .bytes) (e .text) (token s e used k spelt p i low there is m)
 
@@ -191,7 +192,7 @@ module _ (s : Source) (e : Earlier) (used : ℕ) (k : Rows used e) (spelt : Rows
       (λ z. absurd (never-named (sym (pick-false y (refused 8) z) ∙ o)))
 
   pub name-run : (n p i f g q : ℕ) (d D : Draft) → i ≡ e .first + (p - 1) → 1 ≤ p → p + n ≤ e .count + 1
-      → ((j : ℕ) → p ≤ j → j < p + n → isMatch (typeIn (byteIn s j 0)) ≡ true)
+      → ((j : ℕ) → p ≤ j → j < p + n → isMatch (typeAt s j) ≡ true)
       → f ≡ n + g → q ≡ p + n → nameFrom s e used f p d ≡ named D → nameFrom s e used g q (ranOn e used i p n d) ≡ named D
   name-run zero p i f g q d D is low few m ef eq inv =
       let a : g ≡ f = omega arith in
@@ -218,16 +219,16 @@ unfolding typesPast
 types-later zero cur p j h = refl
 types-later (suc n) cur p j h = types-later n (past cur (spanOf p 0) 1) (p + 1) j (omega arith) ∙ past-later cur p 0 1 j (omega arith) (omega arith)
 
-type-same : (bytes dir cur : List ℕ) (p q : ℕ) → p + 1 ≤ q → byteIn (source bytes dir (past cur (spanOf p 0) 1)) q 0 ≡ byteIn (source bytes dir cur) q 0
+type-same : (rules : Rules) (bytes dir cur : List ℕ) (p q : ℕ) → p + 1 ≤ q → byteIn (source rules bytes dir (past cur (spanOf p 0) 1)) q 0 ≡ byteIn (source rules bytes dir cur) q 0
 unfolding spanOf
-type-same bytes dir cur p q h =
-    byte-in-same bytes dir (past cur (10 * p + 0) 1) cur q (λ i k. past-later cur p 0 1 (10 * q + i) (omega arith) (omega arith)) 0 (omega arith)
+type-same rules bytes dir cur p q h =
+    byte-in-same rules bytes dir (past cur (10 * p + 0) 1) cur q (λ i k. past-later cur p 0 1 (10 * q + i) (omega arith) (omega arith)) 0 (omega arith)
 
-pub types-open : (n : ℕ) (bytes dir cur : List ℕ) (p : ℕ) → p + n ≤ 129 → Open bytes dir cur → ((j : ℕ) → p ≤ j → j < p + n → isMatch (typeIn (byteIn (source bytes dir cur) j 0)) ≡ true)
+pub types-open : (rules : Rules) (n : ℕ) (bytes dir cur : List ℕ) (p : ℕ) → p + n ≤ 129 → Open bytes dir cur → ((j : ℕ) → p ≤ j → j < p + n → isMatch (typeAt (source rules bytes dir cur) j) ≡ true)
     → Open bytes dir (typesPast cur p n)
 unfolding typesPast
-types-open zero bytes dir cur p h o m = o
-types-open (suc n) bytes dir cur p h o m =
-    types-open n bytes dir (past cur (spanOf p 0) 1) (p + 1) (omega arith)
-    (open-typed bytes dir cur o p (omega arith) (matched (byteIn (source bytes dir cur) p 0) (m p (omega arith) (omega arith)) .is))
-    (λ j a b. ap (λ (x : NextByte). isMatch (typeIn x)) (type-same bytes dir cur p j a) ∙ m j (omega arith) (omega arith))
+types-open rules zero bytes dir cur p h o m = o
+types-open rules (suc n) bytes dir cur p h o m =
+    types-open rules n bytes dir (past cur (spanOf p 0) 1) (p + 1) (omega arith)
+    (open-typed rules bytes dir cur o p (omega arith) (matched (rules .numbers) (byteIn (source rules bytes dir cur) p 0) (m p (omega arith) (omega arith)) .is))
+    (λ j a b. ap (λ (x : NextByte). isMatch (typeIn (rules .numbers) x)) (type-same rules bytes dir cur p j a) ∙ m j (omega arith) (omega arith))

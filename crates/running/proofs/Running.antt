@@ -15,19 +15,20 @@ use Rattle.base.proofs.Numbers.{by-order}
 use Rattle.base.specs.Every.{Below}
 use Rattle.spans.specs.declared.Position.{Position}
 use Rattle.block.specs.Block.{spanOf, cursorOf}
+use Rattle.tokens.specs.Types.{Rules}
 use Rattle.base.proofs.Below.{take-written}
 use Rattle.kept.specs.Tables.{rowSize, rowAt}
 use Rattle.kept.specs.Inside.{RowInside}
 use Rattle.kept.proofs.Frame as frame
 use Rattle.kept.proofs.Frame.{alike-written, row-alike}
-use Rattle.sources.specs.Source.{Source, source, Earlier, earlier, byteIn}
+use Rattle.sources.specs.Source.{Source, source, Earlier, earlier}
 use Rattle.repeats.specs.Sound.{Rows}
 use Rattle.steps.proofs.Laws.{Known}
 use Rattle.names.specs.declared.Judged.{Judged}
 use Rattle.names.specs.declared.Judged.the-variants as judged
 use Rattle.running.specs.declared.Ran.{Ran}
 use Rattle.running.specs.declared.Ran.the-variants.{On, Long}
-use Rattle.names.specs.Names.{Draft, Named, named, typeIn, nameFrom}
+use Rattle.names.specs.Names.{Draft, Named, named, typeAt, nameFrom}
 use Rattle.names.specs.Judge.{summary, draftOf}
 use Rattle.names.specs.Keeps.{Memory, memory, Roomy}
 use Rattle.repeating.specs.Repeats.{RowsSpelt}
@@ -83,7 +84,7 @@ module _ (s : Source) (e : Earlier) (used end p q : ℕ) (k : Rows used e) (r : 
       length-size (e .rows) (e .first) (e .first + e .count) (run-spelt s e used end p q k r low is some .laid) (e .first + (p - 1)) (e .first + (q - 1)) (q - p - 1)
       (omega arith) (omega arith) (omega arith)
 
-  matches : (j : ℕ) → p ≤ j → j < p + suc (q - p - 1) → isMatch (typeIn (byteIn s j 0)) ≡ true
+  matches : (j : ℕ) → p ≤ j → j < p + suc (q - p - 1) → isMatch (typeAt s j) ≡ true
   matches j h l = run-matches s (end - p) p j h (omega arith)
 
 -- judged
@@ -134,10 +135,10 @@ run-leaves e used row p len (On q l) m = pick-false _ m (both-left (ltb p (q .0)
 run-leaves e used row p len Long m = refl
 
 -- what the earlier name's rows tell stays so while a name is kept behind them
-pub going-reaches : (bytes dir text₀ rows₀ : List ℕ) (first count used row : ℕ) (n : Named) (room : Roomy n (first + count) used row text₀ rows₀)
-    (cur text rows : List ℕ) (p at : ℕ) → Going bytes dir text₀ rows₀ first count used row (draftOf n) cur text rows p at
+pub going-reaches : (rules : Rules) (bytes dir text₀ rows₀ : List ℕ) (first count used row : ℕ) (n : Named) (room : Roomy n (first + count) used row text₀ rows₀)
+    (cur text rows : List ℕ) (p at : ℕ) → Going rules bytes dir text₀ rows₀ first count used row (draftOf n) cur text rows p at
     → (end : ℕ) → Reaches end (earlier text₀ rows₀ first count) → Reaches end (earlier text rows first count)
-going-reaches bytes dir text₀ rows₀ first count used row n room cur text rows p at g end r = (
+going-reaches rules bytes dir text₀ rows₀ first count used row n room cur text rows p at g end r = (
   λ h.
       let alike : frame.Alike rows₀ rows (rowSize * (first + count)) =
       λ j l. sym (ap (λ (x : List ℕ). getD x j 0) (g .table) ∙ alike-written rows₀ (rowSize * row) (g .d .rows) (rowSize * (first + count)) (omega (arith, room .behind)) (omega (arith, room .table)) j l) in
@@ -150,48 +151,48 @@ going-reaches bytes dir text₀ rows₀ first count used row n room cur text row
 )
 
 -- kept
-module _ (bytes dir text₀ rows₀ : List ℕ) (first count used row : ℕ) (n : Named) (room : Roomy n (first + count) used row text₀ rows₀)
+module _ (rules : Rules) (bytes dir text₀ rows₀ : List ℕ) (first count used row : ℕ) (n : Named) (room : Roomy n (first + count) used row text₀ rows₀)
     (bytesBelow : Below 256 bytes) (dirBelow : Below (2 ^ 32) dir)
-    (cur text rows : List ℕ) (p len : ℕ) (g : Going bytes dir text₀ rows₀ first count used row (draftOf n) cur text rows p (used + len))
+    (cur text rows : List ℕ) (p len : ℕ) (g : Going rules bytes dir text₀ rows₀ first count used row (draftOf n) cur text rows p (used + len))
     (end : ℕ) (r : Reaches end (earlier text rows first count)) where
-  judges-whole : judgeFrom (source bytes dir cur) (earlier text rows first count) (129 - p) p len (p - 1) ≡ summary (named (draftOf n))
+  judges-whole : judgeFrom (source rules bytes dir cur) (earlier text rows first count) (129 - p) p len (p - 1) ≡ summary (named (draftOf n))
   judges-whole =
       let a : len ≡ length (g .d .text) = omega (arith, g .place) in
       let b : p - 1 ≡ g .d .count = omega (arith, g .counted) in
-      rw (a, b) (sym (judge-from (source bytes dir cur) (earlier text rows first count) used (129 - p) p (g .d)) ∙ ap summary (g .goes))
+      rw (a, b) (sym (judge-from (source rules bytes dir cur) (earlier text rows first count) used (129 - p) p (g .d)) ∙ ap summary (g .goes))
 
-  pub never-long : runOf (source bytes dir cur) (earlier text rows first count) end p len ≡ Long → ⊥
+  pub never-long : runOf (source rules bytes dir cur) (earlier text rows first count) end p len ≡ Long → ⊥
   unfolding summary
   never-long h =
       let w : len ≤ 254 = omega (arith, g .place, g .short) in
-      let x = run-spoils (source bytes dir cur) (earlier text rows first count) used end p len (summary (named (draftOf n))) (g .known) r (g .low) (g .high) w judges-whole h in
+      let x = run-spoils (source rules bytes dir cur) (earlier text rows first count) used end p len (summary (named (draftOf n))) (g .known) r (g .low) (g .high) w judges-whole h in
       let z : _≡_ {A = ℕ} 0 1 = cc in
       omega arith
 
   -- a run that came to something
-  module _ (q l : ℕ) (w : Some (source bytes dir cur) (earlier text rows first count) end p len q l) where
+  module _ (q l : ℕ) (w : Some (source rules bytes dir cur) (earlier text rows first count) end p len q l) where
     few : (q ≤ count + 1) × (q ≤ 128)
-    few = run-few (source bytes dir cur) (earlier text rows first count) used end p q (g .known) r (g .low) (w .is) (w .some)
+    few = run-few (source rules bytes dir cur) (earlier text rows first count) used end p q (g .known) r (g .low) (w .is) (w .some)
 
     spelt : RowsSpelt (earlier text rows first count)
-    spelt = run-spelt (source bytes dir cur) (earlier text rows first count) used end p q (g .known) r (g .low) (w .is) (w .some)
+    spelt = run-spelt (source rules bytes dir cur) (earlier text rows first count) used end p q (g .known) r (g .low) (w .is) (w .some)
 
-    matched : (j : ℕ) → p ≤ j → j < p + suc (q - p - 1) → isMatch (typeIn (byteIn (source bytes dir cur) j 0)) ≡ true
-    matched = matches (source bytes dir cur) (earlier text rows first count) used end p q (g .known) r (g .low) (w .is) (w .some)
+    matched : (j : ℕ) → p ≤ j → j < p + suc (q - p - 1) → isMatch (typeAt (source rules bytes dir cur) j) ≡ true
+    matched = matches (source rules bytes dir cur) (earlier text rows first count) used end p q (g .known) r (g .low) (w .is) (w .some)
 
     after : Draft
     after = ranOn (earlier text rows first count) used (first + (p - 1)) p (suc (q - p - 1)) (g .d)
 
-    ran-goes : nameFrom (source bytes dir cur) (earlier text rows first count) used (129 - q) q after ≡ named (draftOf n)
+    ran-goes : nameFrom (source rules bytes dir cur) (earlier text rows first count) used (129 - q) q after ≡ named (draftOf n)
     unfolding after
     ran-goes =
         let some = w .some in
-        name-run (source bytes dir cur) (earlier text rows first count) used (g .known) spelt (suc (q - p - 1)) p (first + (p - 1)) (129 - p) (129 - q) q (g .d) (draftOf n)
+        name-run (source rules bytes dir cur) (earlier text rows first count) used (g .known) spelt (suc (q - p - 1)) p (first + (p - 1)) (129 - p) (129 - q) q (g .d) (draftOf n)
         refl (g .low) (omega (arith, few .0)) matched (omega (arith, few .1)) (omega arith) (g .goes)
 
     wide-is : l ≡ len + textSize rows (first + (p - 1)) (suc (q - p - 1))
     wide-is =
-        w .wide ∙ ap (λ (x : ℕ). len + x) (sized (source bytes dir cur) (earlier text rows first count) used end p q (g .known) r (g .low) (w .is) (w .some))
+        w .wide ∙ ap (λ (x : ℕ). len + x) (sized (source rules bytes dir cur) (earlier text rows first count) used end p q (g .known) r (g .low) (w .is) (w .some))
 
     abbrev start : ℕ
     start = rowAt rows (first + (p - 1)) .start
@@ -226,7 +227,7 @@ module _ (bytes dir text₀ rows₀ : List ℕ) (first count used row : ℕ) (n 
 
     some-room : (used + l ≤ length text) × (rowSize * (row + (q - 1)) ≤ length rows)
     some-room =
-        let z = grows (source bytes dir cur) (earlier text rows first count) used (129 - q) q after (draftOf n) ran-goes in (
+        let z = grows (source rules bytes dir cur) (earlier text rows first count) used (129 - q) q after (draftOf n) ran-goes in (
           omega (arith, z .longer, after-text, room .bytes, g .lengthText),
           omega (arith, z .more, after-count, room .table, g .lengthRows),
         )
@@ -273,13 +274,13 @@ module _ (bytes dir text₀ rows₀ : List ℕ) (first count used row : ℕ) (n 
       low-after : 1 ≤ q
       low-after = omega (arith, g .low, w .some)
 
-      known-at : (j : ℕ) → q ≤ j → j ≤ 128 → Known (source bytes dir cur) (earlier text rows first count) used j
+      known-at : (j : ℕ) → q ≤ j → j ≤ 128 → Known (source rules bytes dir cur) (earlier text rows first count) used j
       known-at j h z =
           record { opened = g .opened; rows = g .known; first = omega (arith, low-after); last = z; bytes = bytesBelow; texts = g .belowText; numbers = g .belowRows }
 
-      behind : Stays bytes dir cur cur' text text' rows rows' first count used q
+      behind : Stays rules bytes dir cur cur' text text' rows rows' first count used q
       behind =
-          stays bytes dir cur cur' text text' rows rows' first count used q (used + len) (row + (p - 1)) again (movedRows rows (first + (p - 1)) (suc (q - p - 1)) (used + len)) text-is rows-is
+          stays rules bytes dir cur cur' text text' rows rows' first count used q (used + len) (row + (p - 1)) again (movedRows rows (first + (p - 1)) (suc (q - p - 1)) (used + len)) text-is rows-is
           (omega arith) (omega (arith, room .behind)) text-room rows-room
           (g .known) known-at span-later
 
@@ -304,7 +305,7 @@ module _ (bytes dir text₀ rows₀ : List ℕ) (first count used row : ℕ) (n 
       unfolding after ranOn
       cur-after = cur-is ∙ ap (λ (x : List ℕ). typesPast x p (suc (q - p - 1))) (g .cursors)
 
-      some-keeps : Below 256 text' → Below (2 ^ 32) rows' → Going bytes dir text₀ rows₀ first count used row (draftOf n) cur' text' rows' q (used + l)
+      some-keeps : Below 256 text' → Below (2 ^ 32) rows' → Going rules bytes dir text₀ rows₀ first count used row (draftOf n) cur' text' rows' q (used + l)
       some-keeps bt br =
           record {
             d = after;
@@ -317,10 +318,10 @@ module _ (bytes dir text₀ rows₀ : List ℕ) (first count used row : ℕ) (n 
             short = omega (arith, after-text, w .short);
             counted = omega (arith, after-count, low-after);
             whole = after-rows;
-            opened = rw cur-is (types-open (suc (q - p - 1)) bytes dir cur p (omega (arith, few .1, w .some)) (g .opened) matched);
+            opened = rw cur-is (types-open rules (suc (q - p - 1)) bytes dir cur p (omega (arith, few .1, w .some)) (g .opened) matched);
             known = behind .known;
             goes =
-                name-same (source bytes dir cur) (source bytes dir cur') (earlier text rows first count) (earlier text' rows' first count) used
+                name-same (source rules bytes dir cur) (source rules bytes dir cur') (earlier text rows first count) (earlier text' rows' first count) used
                 (129 - q) q after (omega (arith, few .1)) (behind .alike)
                 ∙ ran-goes;
             lengthText = behind .lengthText ∙ g .lengthText;
@@ -331,23 +332,23 @@ module _ (bytes dir text₀ rows₀ : List ℕ) (first count used row : ℕ) (n 
 
   none-room : (used + len ≤ length text) × (rowSize * (row + (p - 1)) ≤ length rows)
   none-room =
-      let z = grows (source bytes dir cur) (earlier text rows first count) used (129 - p) p (g .d) (draftOf n) (g .goes) in (
+      let z = grows (source rules bytes dir cur) (earlier text rows first count) used (129 - p) p (g .d) (draftOf n) (g .goes) in (
         omega (arith, z .longer, g .place, room .bytes, g .lengthText),
         omega (arith, z .more, g .counted, room .table, g .lengthRows),
       )
 
-  room-of : (q l : ℕ) → ((q ≡ p) × (l ≡ len)) ⊎ Some (source bytes dir cur) (earlier text rows first count) end p len q l
+  room-of : (q l : ℕ) → ((q ≡ p) × (l ≡ len)) ⊎ Some (source rules bytes dir cur) (earlier text rows first count) end p len q l
       → (used + l ≤ length text) × (rowSize * (row + (q - 1)) ≤ length rows)
   room-of q l (inl w) = rw (w .0, w .1) none-room
   room-of q l (inr w) = some-room q l w
 
-  pub run-room : (q l : ℕ) → runOf (source bytes dir cur) (earlier text rows first count) end p len ≡ onAt q l
+  pub run-room : (q l : ℕ) → runOf (source rules bytes dir cur) (earlier text rows first count) end p len ≡ onAt q l
       → (used + l ≤ length text) × (rowSize * (row + (q - 1)) ≤ length rows)
-  run-room q l h = room-of q l (ways (source bytes dir cur) (earlier text rows first count) end p len q l h)
+  run-room q l h = room-of q l (ways (source rules bytes dir cur) (earlier text rows first count) end p len q l h)
 
   module _ (q l : ℕ) (text' rows' cur' : List ℕ) (m : memory text' rows' cur' ≡ runPut true (earlier text rows first count) used row p len (onAt q l) (memory text rows cur))
       (bt : Below 256 text') (br : Below (2 ^ 32) rows') where
-    none-keeps : q ≡ p → l ≡ len → Going bytes dir text₀ rows₀ first count used row (draftOf n) cur' text' rows' q (used + l)
+    none-keeps : q ≡ p → l ≡ len → Going rules bytes dir text₀ rows₀ first count used row (draftOf n) cur' text' rows' q (used + l)
     none-keeps a b =
         let x = m ∙ sym (puts-none (earlier text rows first count) used row p len (memory text rows cur) true q l (omega arith)) in
         let t : text' ≡ text = ap (λ (z : Memory). z .text) x in
@@ -355,13 +356,13 @@ module _ (bytes dir text₀ rows₀ : List ℕ) (first count used row : ℕ) (n 
         let c : cur' ≡ cur = ap (λ (z : Memory). z .cur) x in
         rw (a, b, t, y, c) g
 
-    keeps : ((q ≡ p) × (l ≡ len)) ⊎ Some (source bytes dir cur) (earlier text rows first count) end p len q l
-        → Going bytes dir text₀ rows₀ first count used row (draftOf n) cur' text' rows' q (used + l)
+    keeps : ((q ≡ p) × (l ≡ len)) ⊎ Some (source rules bytes dir cur) (earlier text rows first count) end p len q l
+        → Going rules bytes dir text₀ rows₀ first count used row (draftOf n) cur' text' rows' q (used + l)
     keeps (inl w) = none-keeps (w .0) (w .1)
     keeps (inr w) = some-keeps q l w text' rows' cur' m bt br
 
-  pub run-keeps : (q l : ℕ) (text' rows' cur' : List ℕ) → runOf (source bytes dir cur) (earlier text rows first count) end p len ≡ onAt q l
+  pub run-keeps : (q l : ℕ) (text' rows' cur' : List ℕ) → runOf (source rules bytes dir cur) (earlier text rows first count) end p len ≡ onAt q l
       → memory text' rows' cur' ≡ runPut true (earlier text rows first count) used row p len (onAt q l) (memory text rows cur)
       → Below 256 text' → Below (2 ^ 32) rows'
-      → Going bytes dir text₀ rows₀ first count used row (draftOf n) cur' text' rows' q (used + l)
-  run-keeps q l text' rows' cur' h m bt br = keeps q l text' rows' cur' m bt br (ways (source bytes dir cur) (earlier text rows first count) end p len q l h)
+      → Going rules bytes dir text₀ rows₀ first count used row (draftOf n) cur' text' rows' q (used + l)
+  run-keeps q l text' rows' cur' h m bt br = keeps q l text' rows' cur' m bt br (ways (source rules bytes dir cur) (earlier text rows first count) end p len q l h)

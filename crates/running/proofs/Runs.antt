@@ -37,7 +37,7 @@ module _ (s : Source) (e : Earlier) (used end p q : ℕ) (k : Rows used e) (r : 
   pub run-moves : Below (2 ^ 32) (s .dir) → (i : ℕ) → p ≤ i → i < q → cursorOf (s .cur) (spanOf i 0) + 1 < 2 ^ 32
   unfolding endOf
   run-moves d i h l =
-      let w = matched (byteIn s i 0) (run-matches s (end - p) p i h (omega arith)) in
+      let w = matched (s .rules .numbers) (byteIn s i 0) (run-matches s (end - p) p i h (omega arith)) in
       let b = byte-reach s i 0 (w .is) .1 in
       omega (arith, b .high, d (2 * spanOf i 0 + 1))
 

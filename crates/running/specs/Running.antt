@@ -9,6 +9,8 @@ use lib.ListN.{length}
 use Rattle.base.specs.Choice.{pick, both}
 use Rattle.base.specs.Lent.{Buffer}
 use Rattle.spans.specs.declared.Position.{Position}
+use Rattle.block.specs.declared.Setting.{Setting}
+use Rattle.tokens.specs.Types.{rulesOf}
 use Rattle.sources.specs.Source.{Source, source, Earlier, earlier}
 use Rattle.kept.specs.Tables.{rowSize}
 use Rattle.names.specs.Keeps.{Memory}
@@ -38,12 +40,12 @@ unfoldable pub runOf : Source → Earlier → ℕ → ℕ → ℕ → Ran
 runOf s e end p len = runTo e p (runEnd s p (end - p)) len
 
 -- the same of the block and of the earlier name's rows that a call is lent
-abbrev pub runNow : RefT (List ℕ) → RefT (List ℕ) → RefT (List ℕ) → RefT (List ℕ) → RefT (List ℕ) → ℕ → ℕ → Position → Position → ℕ → Ran
-runNow bytes dir cursors text rows first count end p len =
-    runOf (source (now bytes) (now dir) (now cursors)) (earlier (now text) (now rows) first count) (end .0) (p .0) len
+abbrev pub runNow : Setting → RefT (List ℕ) → RefT (List ℕ) → RefT (List ℕ) → RefT (List ℕ) → RefT (List ℕ) → ℕ → ℕ → Position → Position → ℕ → Ran
+runNow set bytes dir cursors text rows first count end p len =
+    runOf (source (rulesOf set) (now bytes) (now dir) (now cursors)) (earlier (now text) (now rows) first count) (end .0) (p .0) len
 
-abbrev pub runLent : Buffer → Buffer → Buffer → Buffer → Buffer → ℕ → ℕ → Position → Position → ℕ → Ran
-runLent bytes dir cursors text rows = runNow (bytes .entry) (dir .entry) (cursors .entry) (text .entry) (rows .entry)
+abbrev pub runLent : Setting → Buffer → Buffer → Buffer → Buffer → Buffer → ℕ → ℕ → Position → Position → ℕ → Ran
+runLent set bytes dir cursors text rows = runNow set (bytes .entry) (dir .entry) (cursors .entry) (text .entry) (rows .entry)
 
 -- room for the name as far as the run takes it
 abbrev pub RunRoom : Ran → ℕ → ℕ → List ℕ → List ℕ → Type 0

@@ -9,6 +9,7 @@ ghost use Rattle.names.specs.Keeps.{memoryLent, memoryLeft};
 ghost use Rattle.running.specs.Running.{Reaches, runNow, runLent, RunRoom, runPut};
 ghost use Rattle.base.specs.Lent.{lent};
 use block::Block;
+use block::Setting;
 use spans::Position;
 
 // Behind a run of MATCHes: the next position and the name's length so far, or that the name is too long.
@@ -19,6 +20,7 @@ pub enum Ran {
 
 // The run from position p on, of a name of `len` bytes so far; kept where the name is being kept.
 pub fn run(
+    set: Setting,
     keeping: bool,
     end: Position,
     bytes: &[u8],
@@ -38,11 +40,11 @@ pub fn run(
     requires { ⌜ Reaches (end .0) (earlier (now text) (now rows) first count) ⌝ }
     requires { ⌜ (1 ≤ p .0) × ((p .0 ≤ 128) × (len ≤ 254)) ⌝ }
     requires { ⌜ (used < 2 ^ 31) × ((first + count ≤ row) × (row < 2 ^ 31)) ⌝ }
-    requires { ⌜ (keeping ≡ true → RunRoom (runNow bytes dir cursors text rows first count end p len) used row (now text) (now rows)) ⌝ }
-    ensures { λ r. ⌜ r ≡ runLent bytes dir cursors text rows first count end p len ⌝ }
+    requires { ⌜ (keeping ≡ true → RunRoom (runNow set bytes dir cursors text rows first count end p len) used row (now text) (now rows)) ⌝ }
+    ensures { λ r. ⌜ r ≡ runLent set bytes dir cursors text rows first count end p len ⌝ }
     ensures { λ r. ⌜ memoryLeft text rows cursors ≡ runPut keeping (earlier (lent text) (lent rows) first count) used row (p .0) len r (memoryLent text rows cursors) ⌝ }
 {
-    let q = runs::run_end(bytes, dir, cursors, p, end);
+    let q = runs::run_end(set, bytes, dir, cursors, p, end);
     if q.0 <= p.0 {
         return Ran::On { p: p, len: len };
     }

@@ -11,10 +11,10 @@ use Rattle.spans.specs.declared.NextByte.{NextByte}
 use Rattle.spans.specs.declared.NextByte.the-variants as byte
 use Rattle.tokens.specs.declared.TokenType.{TokenType}
 use Rattle.tokens.specs.declared.TokenType.the-variants as type
-use Rattle.tokens.specs.Types.{typeOf}
+use Rattle.tokens.specs.Types.{Numbers, typeOf}
 use Rattle.kept.specs.Tables.{rowAt}
-use Rattle.sources.specs.Source.{Source, byteIn}
-use Rattle.names.specs.Names.{typeIn}
+use Rattle.sources.specs.Source.{Source}
+use Rattle.names.specs.Names.{typeIn, typeAt}
 use Rattle.runs.specs.Runs.{isMatch, runEnd, textStart, textLength}
 
 pub only-match : (t : TokenType) → isMatch t ≡ true → t ≡ type.Match
@@ -29,16 +29,16 @@ only-match type.End q = absurd (never q)
 only-match type.Other q = absurd (never q)
 
 -- where the type is MATCH, there is a type byte
-pub record Matched (found : NextByte) : Type 0 where
+pub record Matched (n : Numbers) (found : NextByte) : Type 0 where
   pub code : ℕ
   pub next : Cursor
   pub is : found ≡ byte.Value code next
-  pub typed : typeOf code ≡ type.Match
+  pub typed : typeOf n code ≡ type.Match
 
-pub matched : (found : NextByte) → isMatch (typeIn found) ≡ true → Matched found
+pub matched : (n : Numbers) (found : NextByte) → isMatch (typeIn n found) ≡ true → Matched n found
 unfolding typeIn
-matched (byte.Value b c) q = record { code = b; next = c; is = refl; typed = only-match (typeOf b) q }
-matched byte.Short q = absurd (never q)
+matched n (byte.Value b c) q = record { code = b; next = c; is = refl; typed = only-match (typeOf n b) q }
+matched n byte.Short q = absurd (never q)
 
 -- a turn of the loop over the types
 module _ (s : Source) (p f : ℕ) where
@@ -47,11 +47,11 @@ module _ (s : Source) (p f : ℕ) where
   run-over h = rw h
 
   module _ (g : ℕ) (h : f ≡ suc g) where
-    pub run-stops : isMatch (typeIn (byteIn s p 0)) ≡ false → p ≡ runEnd s p f
+    pub run-stops : isMatch (typeAt s p) ≡ false → p ≡ runEnd s p f
     unfolding runEnd
     run-stops q = rw h (sym (pick-false _ _ q))
 
-    pub run-more : isMatch (typeIn (byteIn s p 0)) ≡ true → runEnd s (p + 1) g ≡ runEnd s p f
+    pub run-more : isMatch (typeAt s p) ≡ true → runEnd s (p + 1) g ≡ runEnd s p f
     unfolding runEnd
     run-more q = rw h (sym (pick-true _ _ q))
 
@@ -70,7 +70,7 @@ pub run-low : (s : Source) (f p : ℕ) → p ≤ runEnd s p f
 unfolding runEnd
 run-low s zero p = omega arith
 run-low s (suc f) p =
-    by-test (isMatch (typeIn (byteIn s p 0)))
+    by-test (isMatch (typeAt s p))
     (λ q. let k = run-low s f (p + 1) in rw (pick-true (runEnd s (p + 1) f) p q) (omega arith))
     (λ q. rw (pick-false (runEnd s (p + 1) f) p q) (omega arith))
 
@@ -78,14 +78,14 @@ pub run-high : (s : Source) (f p : ℕ) → runEnd s p f ≤ p + f
 unfolding runEnd
 run-high s zero p = omega arith
 run-high s (suc f) p =
-    by-test (isMatch (typeIn (byteIn s p 0)))
+    by-test (isMatch (typeAt s p))
     (λ q. let k = run-high s f (p + 1) in rw (pick-true (runEnd s (p + 1) f) p q) (omega arith))
     (λ q. rw (pick-false (runEnd s (p + 1) f) p q) (omega arith))
 
-pub run-matches : (s : Source) (f p i : ℕ) → p ≤ i → i < runEnd s p f → isMatch (typeIn (byteIn s i 0)) ≡ true
+pub run-matches : (s : Source) (f p i : ℕ) → p ≤ i → i < runEnd s p f → isMatch (typeAt s i) ≡ true
 unfolding runEnd
 run-matches s zero p i h l = absurd (omega arith)
 run-matches s (suc f) p i h l =
-    by-test (isMatch (typeIn (byteIn s p 0)))
-    (λ q. let k : i < runEnd s (p + 1) f = rw (pick-true (runEnd s (p + 1) f) p q) at l in here-or-later (λ (j : ℕ). isMatch (typeIn (byteIn s j 0)) ≡ true) p i h q (λ z. run-matches s f (p + 1) i z k))
+    by-test (isMatch (typeAt s p))
+    (λ q. let k : i < runEnd s (p + 1) f = rw (pick-true (runEnd s (p + 1) f) p q) at l in here-or-later (λ (j : ℕ). isMatch (typeAt s j) ≡ true) p i h q (λ z. run-matches s f (p + 1) i z k))
     (λ q. let k : i < p = rw (pick-false (runEnd s (p + 1) f) p q) at l in absurd (omega arith))

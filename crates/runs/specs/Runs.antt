@@ -3,12 +3,11 @@ use Prim.Native.Nat.{ℕ, zero, suc, _+_, _-_}
 use mathlib.Core.Bool.{Bool, true, false}
 use mathlib.Core.List.{List}
 use Rattle.base.specs.Choice.{pick}
-use Rattle.block.specs.Streams.{typeStream}
 use Rattle.tokens.specs.declared.TokenType.{TokenType}
 use Rattle.tokens.specs.declared.TokenType.the-variants as type
 use Rattle.kept.specs.Tables.{rowAt}
-use Rattle.sources.specs.Source.{Source, byteIn}
-use Rattle.names.specs.Names.{typeIn}
+use Rattle.sources.specs.Source.{Source}
+use Rattle.names.specs.Names.{typeAt}
 
 abbrev pub isMatch : TokenType → Bool
 isMatch type.Match = true
@@ -24,7 +23,7 @@ isMatch type.Other = false
 -- the first position from p on, over at most f of them, whose type isn't MATCH
 unfoldable pub runEnd : Source → ℕ → ℕ → ℕ
 runEnd s p zero = p
-runEnd s p (suc f) = pick (isMatch (typeIn (byteIn s p typeStream))) (runEnd s (p + 1) f) p
+runEnd s p (suc f) = pick (isMatch (typeAt s p)) (runEnd s (p + 1) f) p
 
 -- where the text of row i starts, and how many bytes rows i up to j have, which lie one behind the other
 unfoldable pub textStart : List ℕ → ℕ → ℕ

@@ -8,6 +8,7 @@ ghost use Rattle.kept.specs.Tables.{rowSize, rowAt};
 ghost use Rattle.sources.specs.Source.{blockLent};
 ghost use Rattle.runs.specs.Runs.{isMatch, runEnd, textLength};
 ghost use Rattle.base.specs.Lent.{lent};
+use block::Setting;
 use block::stream;
 use kept::tables;
 use names::keeping;
@@ -42,16 +43,23 @@ fn is_match(t: TokenType) -> bool
 }
 
 // The first position from p on that isn't a MATCH, or `end`.
-pub fn run_end(bytes: &[u8], dir: &[u32], cursors: &[u32], p: Position, end: Position) -> Position
+pub fn run_end(
+    set: Setting,
+    bytes: &[u8],
+    dir: &[u32],
+    cursors: &[u32],
+    p: Position,
+    end: Position,
+) -> Position
     requires { ⌜ Open (now bytes) (now dir) (now cursors) ⌝ }
     requires { ⌜ (1 ≤ p .0) × (end .0 ≤ 128) ⌝ }
-    ensures { λ r. ⌜ r .0 ≡ runEnd (blockLent bytes dir cursors) (p .0) (end .0 - p .0) ⌝ }
+    ensures { λ r. ⌜ r .0 ≡ runEnd (blockLent set bytes dir cursors) (p .0) (end .0 - p .0) ⌝ }
 {
     let stop = end.0;
     let mut q = p.0;
     while q < stop {
         let found = sources::byte_in(bytes, dir, cursors, Position(q), stream::TYPE);
-        if !is_match(keeping::type_in(found)) {
+        if !is_match(keeping::type_in(set, found)) {
             return Position(q);
         }
         q += 1;

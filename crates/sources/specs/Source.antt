@@ -1,4 +1,4 @@
--- What a step looks at: the block's bytes, its directory and the cursors, and the rows of the earlier name.
+-- What a step looks at: the rules that the block is read by, its bytes, its directory and the cursors, and the rows of the earlier name.
 use Prim.Native.Nat.{ℕ}
 use mathlib.Core.List.{List}
 use Rattle.spans.specs.declared.NextByte.{NextByte}
@@ -6,15 +6,18 @@ use Rattle.spans.specs.declared.NextFour.{NextFour}
 use Rattle.spans.specs.declared.NextText.{NextText}
 use Rattle.spans.specs.Spans.{byteAt, fourAt, textAt}
 use Rattle.block.specs.Block.{spanOf, endOf, cursorOf}
+use Rattle.block.specs.declared.Setting.{Setting}
+use Rattle.tokens.specs.Types.{Rules, rulesOf}
 use Rattle.base.specs.Lent.{Buffer, lent}
 
 pub record Source : Type 0 where
+  pub rules : Rules
   pub bytes : List ℕ
   pub dir : List ℕ
   pub cur : List ℕ
 
-abbrev pub source : List ℕ → List ℕ → List ℕ → Source
-source b d c = record { bytes = b; dir = d; cur = c }
+abbrev pub source : Rules → List ℕ → List ℕ → List ℕ → Source
+source r b d c = record { rules = r; bytes = b; dir = d; cur = c }
 
 -- what the span of position p and stream i gives next
 unfoldable pub byteIn : Source → ℕ → ℕ → NextByte
@@ -37,5 +40,5 @@ abbrev pub earlier : List ℕ → List ℕ → ℕ → ℕ → Earlier
 earlier t r f n = record { text = t; rows = r; first = f; count = n }
 
 -- the block that a call is lent
-abbrev pub blockLent : Buffer → Buffer → Buffer → Source
-blockLent bytes dir cursors = source (lent bytes) (lent dir) (lent cursors)
+abbrev pub blockLent : Setting → Buffer → Buffer → Buffer → Source
+blockLent set bytes dir cursors = source (rulesOf set) (lent bytes) (lent dir) (lent cursors)

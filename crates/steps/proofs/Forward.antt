@@ -18,11 +18,11 @@ use Rattle.repeats.proofs.Ways.{match-is}
 use Rattle.bars.proofs.Laws.{unbarred-before}
 
 module _ (s : Source) (e : Earlier) (p : ℕ) {b : ℕ} {k : Cursor} (q : byteIn s p 0 ≡ byte.Value b k) where
-  pub step-typed : (t : TokenType) → typeOf b ≡ t → barred p t ≡ false → stepAt s e p ≡ valueStep s e p k t
+  pub step-typed : (t : TokenType) → typeOf (s .rules .numbers) b ≡ t → barred p t ≡ false → stepAt s e p ≡ valueStep s e p k t
   unfolding stepAt typedStep
   step-typed t y h = rw (q, y) (pick-false _ _ h)
 
   -- the row that MATCH leans on
-  pub step-match : p < 128 → p ≤ e .count → typeOf b ≡ type.Match → stepAt s e p ≡ Got (tokenOf (e .text) (rowAt (e .rows) (e .first + (p - 1)))) k
+  pub step-match : p < 128 → p ≤ e .count → typeOf (s .rules .numbers) b ≡ type.Match → stepAt s e p ≡ Got (tokenOf (e .text) (rowAt (e .rows) (e .first + (p - 1)))) k
   unfolding valueStep
   step-match l there y = step-typed type.Match y (unbarred-before p type.Match l) ∙ sym (match-is e p k there refl refl)

@@ -16,7 +16,7 @@ use Rattle.block.specs.Block.{spanOf, cursorOf}
 use Rattle.tokens.specs.declared.TokenType.{TokenType}
 use Rattle.tokens.specs.declared.TokenType.the-variants as type
 use Rattle.tokens.specs.declared.Token.{Token}
-use Rattle.tokens.specs.Types.{typeOf}
+use Rattle.tokens.specs.Types.{Rules, typeOf}
 use Rattle.kept.specs.Tables.{rowSize, rowAt}
 use Rattle.kept.proofs.Frame.{Alike, row-alike}
 use Rattle.values.specs.declared.Step.the-variants.{Got, Refused}
@@ -30,20 +30,20 @@ use Rattle.repeats.proofs.Frame.{token-same}
 
 -- The cursors
 
-module _ (bytes dir cur other : List ℕ) (p : ℕ) (same : (i : ℕ) → i ≤ 9 → cursorOf cur (spanOf p i) ≡ cursorOf other (spanOf p i)) where
-  pub byte-in-same : (i : ℕ) → i ≤ 9 → byteIn (source bytes dir cur) p i ≡ byteIn (source bytes dir other) p i
+module _ (rules : Rules) (bytes dir cur other : List ℕ) (p : ℕ) (same : (i : ℕ) → i ≤ 9 → cursorOf cur (spanOf p i) ≡ cursorOf other (spanOf p i)) where
+  pub byte-in-same : (i : ℕ) → i ≤ 9 → byteIn (source rules bytes dir cur) p i ≡ byteIn (source rules bytes dir other) p i
   unfolding byteIn
   byte-in-same i h = rw (same i h)
 
-  pub four-in-same : (i : ℕ) → i ≤ 9 → fourIn (source bytes dir cur) p i ≡ fourIn (source bytes dir other) p i
+  pub four-in-same : (i : ℕ) → i ≤ 9 → fourIn (source rules bytes dir cur) p i ≡ fourIn (source rules bytes dir other) p i
   unfolding fourIn
   four-in-same i h = rw (same i h)
 
-  pub text-in-same : (i : ℕ) → i ≤ 9 → textIn (source bytes dir cur) p i ≡ textIn (source bytes dir other) p i
+  pub text-in-same : (i : ℕ) → i ≤ 9 → textIn (source rules bytes dir cur) p i ≡ textIn (source rules bytes dir other) p i
   unfolding textIn
   text-in-same i h = rw (same i h)
 
-  value-cursors : (e : Earlier) (c : Cursor) (t : TokenType) → valueStep (source bytes dir cur) e p c t ≡ valueStep (source bytes dir other) e p c t
+  value-cursors : (e : Earlier) (c : Cursor) (t : TokenType) → valueStep (source rules bytes dir cur) e p c t ≡ valueStep (source rules bytes dir other) e p c t
   unfolding valueStep deltaAt delta0At
   value-cursors e c type.String = ap stringStep (text-in-same 1 (omega arith))
   value-cursors e c type.Char = ap charStep (byte-in-same 2 (omega arith))
@@ -55,14 +55,14 @@ module _ (bytes dir cur other : List ℕ) (p : ℕ) (same : (i : ℕ) → i ≤ 
   value-cursors e c type.End = refl
   value-cursors e c type.Other = refl
 
-  typed-cursors : (e : Earlier) (found : NextByte) → typedStep (source bytes dir cur) e p found ≡ typedStep (source bytes dir other) e p found
+  typed-cursors : (e : Earlier) (found : NextByte) → typedStep (source rules bytes dir cur) e p found ≡ typedStep (source rules bytes dir other) e p found
   unfolding typedStep
-  typed-cursors e (byte.Value b c) = ap (pick (barred p (typeOf b)) (Refused 7)) (value-cursors e c (typeOf b))
+  typed-cursors e (byte.Value b c) = ap (pick (barred p (typeOf (rules .numbers) b)) (Refused 7)) (value-cursors e c (typeOf (rules .numbers) b))
   typed-cursors e byte.Short = refl
 
-  pub step-cursors : (e : Earlier) → stepAt (source bytes dir cur) e p ≡ stepAt (source bytes dir other) e p
+  pub step-cursors : (e : Earlier) → stepAt (source rules bytes dir cur) e p ≡ stepAt (source rules bytes dir other) e p
   unfolding stepAt
-  step-cursors e = typed-cursors e (byteIn (source bytes dir cur) p 0) ∙ ap (typedStep (source bytes dir other) e p) (byte-in-same 0 (omega arith))
+  step-cursors e = typed-cursors e (byteIn (source rules bytes dir cur) p 0) ∙ ap (typedStep (source rules bytes dir other) e p) (byte-in-same 0 (omega arith))
 
 -- The earlier name
 
@@ -111,7 +111,7 @@ module _ (text others rows table : List ℕ) (first count used p : ℕ) (known :
 
   typed-earlier : (s : Source) (found : NextByte) → typedStep s (earlier text rows first count) p found ≡ typedStep s (earlier others table first count) p found
   unfolding typedStep
-  typed-earlier s (byte.Value b c) = ap (pick (barred p (typeOf b)) (Refused 7)) (value-earlier s c (typeOf b))
+  typed-earlier s (byte.Value b c) = ap (pick (barred p (typeOf (s .rules .numbers) b)) (Refused 7)) (value-earlier s c (typeOf (s .rules .numbers) b))
   typed-earlier s byte.Short = refl
 
   pub step-earlier : (s : Source) → stepAt s (earlier text rows first count) p ≡ stepAt s (earlier others table first count) p
@@ -129,9 +129,9 @@ module _ (text others rows table : List ℕ) (first count used p : ℕ) (known :
       }
 
 -- both at once
-pub step-frame : (bytes dir cur other text others rows table : List ℕ) (first count used p : ℕ) → Rows used (earlier text rows first count) → 1 ≤ p
+pub step-frame : (rules : Rules) (bytes dir cur other text others rows table : List ℕ) (first count used p : ℕ) → Rows used (earlier text rows first count) → 1 ≤ p
     → ((i : ℕ) → i ≤ 9 → cursorOf cur (spanOf p i) ≡ cursorOf other (spanOf p i))
     → take used text ≡ take used others → Alike rows table (rowSize * (first + count))
-    → stepAt (source bytes dir cur) (earlier text rows first count) p ≡ stepAt (source bytes dir other) (earlier others table first count) p
-step-frame bytes dir cur other text others rows table first count used p known low same texts numbers =
-    step-cursors bytes dir cur other p same (earlier text rows first count) ∙ step-earlier text others rows table first count used p known low texts numbers (source bytes dir other)
+    → stepAt (source rules bytes dir cur) (earlier text rows first count) p ≡ stepAt (source rules bytes dir other) (earlier others table first count) p
+step-frame rules bytes dir cur other text others rows table first count used p known low same texts numbers =
+    step-cursors rules bytes dir cur other p same (earlier text rows first count) ∙ step-earlier text others rows table first count used p known low texts numbers (source rules bytes dir other)

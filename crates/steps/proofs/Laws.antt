@@ -185,7 +185,7 @@ pub record Given (s : Source) (e : Earlier) (used p : ℕ) (t : Token) (c : Curs
   pub before : p < 128
   pub inside : Inside (s .bytes) (e .text) t
   pub below : KeptBelow used t
-  pub moved : Moved s p (c .0) (typeOf code)
+  pub moved : Moved s p (c .0) (typeOf (s .rules .numbers) code)
 
 -- what END tells
 pub record Ended (s : Source) (p : ℕ) : Type 0 where
@@ -193,7 +193,7 @@ pub record Ended (s : Source) (p : ℕ) : Type 0 where
   pub next : Cursor
   pub typed : byteIn s p 0 ≡ byte.Value code next
   pub there : cursorOf (s .cur) (spanOf p 0) + 1 ≤ endOf (s .dir) (spanOf p 0)
-  pub ends : typeOf code ≡ type.End
+  pub ends : typeOf (s .rules .numbers) code ≡ type.End
 
 not-got : {n : ℕ} {t : Token} {c : Cursor} → Refused n ≡ Got t c → ⊥
 not-got e = let z : _≡_ {A = ℕ} 0 1 = cc in omega arith
@@ -233,20 +233,20 @@ module _ (s : Source) (e : Earlier) (p : ℕ) where
 typed-given : (s : Source) (e : Earlier) (used p : ℕ) (t : Token) (c : Cursor) → Known s e used p → (found : NextByte) → byteIn s p 0 ≡ found → typedStep s e p found ≡ Got t c → Given s e used p t c
 unfolding typedStep
 typed-given s e used p t c k (byte.Value b n) q r =
-    by-test (barred p (typeOf b))
+    by-test (barred p (typeOf (s .rules .numbers) b))
     (λ h. absurd (not-got (sym (pick-true _ _ h) ∙ r)))
     (λ h.
-    let v : valueStep s e p n (typeOf b) ≡ Got t c = sym (pick-false _ _ h) ∙ r in
-    let f : Fine s e used (typeOf b) (Got t c) = subst (λ (x : Step). Fine s e used (typeOf b) x) v (value-fine s e used p k n (typeOf b)) in
+    let v : valueStep s e p n (typeOf (s .rules .numbers) b) ≡ Got t c = sym (pick-false _ _ h) ∙ r in
+    let f : Fine s e used (typeOf (s .rules .numbers) b) (Got t c) = subst (λ (x : Step). Fine s e used (typeOf (s .rules .numbers) b) x) v (value-fine s e used p k n (typeOf (s .rules .numbers) b)) in
     record {
       code = b;
       next = n;
       typed = q;
       there = byte-there s e p q;
-      before = unbarred s e p (typeOf b) (k .last) h (got-carries s e p n (typeOf b) v);
+      before = unbarred s e p (typeOf (s .rules .numbers) b) (k .last) h (got-carries s e p n (typeOf (s .rules .numbers) b) v);
       inside = f .0;
       below = f .1;
-      moved = value-moved s e p n (typeOf b) v;
+      moved = value-moved s e p n (typeOf (s .rules .numbers) b) v;
     })
 typed-given s e used p t c k byte.Short q r = absurd (not-got r)
 
@@ -257,16 +257,16 @@ given s e used p {t} {c} k r = typed-given s e used p t c k (byteIn s p 0) refl 
 typed-ended : (s : Source) (e : Earlier) (used p : ℕ) → Known s e used p → (found : NextByte) → byteIn s p 0 ≡ found → typedStep s e p found ≡ End → Ended s p
 unfolding typedStep
 typed-ended s e used p k (byte.Value b n) q r =
-    by-test (barred p (typeOf b))
+    by-test (barred p (typeOf (s .rules .numbers) b))
     (λ h. absurd (refused-end (sym (pick-true _ _ h) ∙ r)))
     (λ h.
-    let v : valueStep s e p n (typeOf b) ≡ End = sym (pick-false _ _ h) ∙ r in
+    let v : valueStep s e p n (typeOf (s .rules .numbers) b) ≡ End = sym (pick-false _ _ h) ∙ r in
     record {
       code = b;
       next = n;
       typed = q;
       there = byte-there s e p q;
-      ends = subst (λ (x : Step). Fine s e used (typeOf b) x) v (value-fine s e used p k n (typeOf b));
+      ends = subst (λ (x : Step). Fine s e used (typeOf (s .rules .numbers) b) x) v (value-fine s e used p k n (typeOf (s .rules .numbers) b));
     })
 typed-ended s e used p k byte.Short q r = absurd (refused-end r)
 

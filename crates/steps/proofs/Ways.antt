@@ -13,7 +13,7 @@ use Rattle.sources.specs.Source.{Source, Earlier}
 use Rattle.steps.specs.Steps.{valueStep, typedStep}
 use Rattle.bars.specs.Bars.{barred}
 
-module _ (s : Source) (e : Earlier) (p b : ℕ) (c : Cursor) {t : TokenType} (q : t ≡ typeOf b) where
+module _ (s : Source) (e : Earlier) (p b : ℕ) (c : Cursor) {t : TokenType} (q : t ≡ typeOf (s .rules .numbers) b) where
   pub typed-barred : barred p t ≡ true → Refused 7 ≡ typedStep s e p (byte.Value b c)
   unfolding typedStep
   typed-barred h = rw (← q) (took _ _ h refl)

@@ -4,7 +4,7 @@ use Rattle.base.specs.Choice.{pick}
 use Rattle.spans.specs.declared.Cursor.{Cursor}
 use Rattle.spans.specs.declared.NextByte.{NextByte}
 use Rattle.spans.specs.declared.NextByte.the-variants as byte
-use Rattle.block.specs.Streams.{typeStream, stringStream, charStream, digits0Stream, dzlenStream, digitsStream}
+use Rattle.block.specs.Streams.{typeStream, stringStream, charStream, digitsStream}
 use Rattle.tokens.specs.declared.TokenType.{TokenType}
 use Rattle.tokens.specs.declared.TokenType.the-variants as type
 use Rattle.tokens.specs.Types.{typeOf}
@@ -29,7 +29,7 @@ valueStep s e p c type.Other = Refused 3
 
 -- 3, 7 and 5 are judged before the values
 unfoldable pub typedStep : Source → Earlier → ℕ → NextByte → Step
-typedStep s e p (byte.Value b c) = pick (barred p (typeOf b)) (Refused 7) (valueStep s e p c (typeOf b))
+typedStep s e p (byte.Value b c) = pick (barred p (typeOf (s .rules .numbers) b)) (Refused 7) (valueStep s e p c (typeOf (s .rules .numbers) b))
 typedStep s e p byte.Short = Refused 2
 
 -- what stands at position p

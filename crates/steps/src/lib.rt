@@ -3,10 +3,12 @@
 ghost use mathlib.Core.Path.{_≡_};
 ghost use Prim.Native.Nat.{_≤_, _<_, _+_, _^_};
 ghost use Rattle.block.specs.Open.{Open};
-ghost use Rattle.sources.specs.Source.{earlier, blockLent};
+ghost use Rattle.sources.specs.Source.{source, earlier, blockLent};
+ghost use Rattle.tokens.specs.Types.{Rules};
 ghost use Rattle.steps.specs.Steps.{valueStep, typedStep};
 ghost use Rattle.repeats.specs.Sound.{Rows, reach};
 ghost use Rattle.base.specs.Lent.{lent};
+use block::Setting;
 use block::stream;
 use spans::Cursor;
 use spans::NextByte;
@@ -30,7 +32,7 @@ pub fn value_step(
     requires { ⌜ Open (now bytes) (now dir) (now cursors) ⌝ }
     requires { ⌜ Rows (reach (now text)) (earlier (now text) (now rows) first count) ⌝ }
     requires { ⌜ (first + count < 2 ^ 32) × ((1 ≤ p .0) × (p .0 ≤ 128)) ⌝ }
-    ensures { λ r. ⌜ r ≡ valueStep (blockLent bytes dir cursors) (earlier (lent text) (lent rows) first count) (p .0) c t ⌝ }
+    ensures { λ r. ⌜ ((rules : Rules) → r ≡ valueStep (source rules (lent bytes) (lent dir) (lent cursors)) (earlier (lent text) (lent rows) first count) (p .0) c t) ⌝ }
 {
     match t {
         TokenType::String => values::string_step(sources::text_in(
@@ -65,6 +67,7 @@ pub fn value_step(
 
 // The token behind a type byte that has been looked for.
 pub fn typed_step(
+    set: Setting,
     bytes: &[u8],
     dir: &[u32],
     cursors: &[u32],
@@ -78,11 +81,12 @@ pub fn typed_step(
     requires { ⌜ Open (now bytes) (now dir) (now cursors) ⌝ }
     requires { ⌜ Rows (reach (now text)) (earlier (now text) (now rows) first count) ⌝ }
     requires { ⌜ (first + count < 2 ^ 32) × ((1 ≤ p .0) × (p .0 ≤ 128)) ⌝ }
-    ensures { λ r. ⌜ r ≡ typedStep (blockLent bytes dir cursors) (earlier (lent text) (lent rows) first count) (p .0) found ⌝ }
+    ensures { λ r. ⌜ r ≡ typedStep (blockLent set bytes dir cursors) (earlier (lent text) (lent rows) first count) (p .0) found ⌝ }
 {
     match found {
         NextByte::Value(b, c) => {
-            let t = tokens::type_of(b);
+            let kind = set.kind;
+            let t = tokens::type_of(kind, b);
             if bars::barred(p, t) {
                 Step::Refused(7)
             } else {

@@ -1,12 +1,14 @@
 // One token of a name taken where a turn stands: judged over what is lent and not written, or kept.
 ghost use mathlib.Core.Path.{_≡_};
 ghost use mathlib.Core.Bool.{true};
+ghost use Rattle.tokens.specs.Types.{numbersOf};
 ghost use Rattle.tokens.specs.Inside.{Inside};
 ghost use Rattle.values.specs.declared.Step.the-variants.{Got};
 ghost use Rattle.names.specs.Names.{typeIn};
 ghost use Rattle.names.specs.Keeps.{memoryLent, memoryLeft};
 ghost use Rattle.taking.specs.Taking.{Placed, turnOf, KeepableAt, takePut};
 ghost use Rattle.base.specs.Lent.{lent};
+use block::Setting;
 use names::judging;
 use names::keeping;
 use spans::Cursor;
@@ -31,6 +33,7 @@ pub struct Place {
 
 // One token, judged or kept. Its length is found once: where it is kept, by putting it down.
 pub fn take(
+    set: Setting,
     keeping: bool,
     t: Token,
     found: NextByte,
@@ -43,12 +46,12 @@ pub fn take(
 ) -> Turn
     requires { ⌜ Inside (now bytes) (now text) t ⌝ }
     requires { ⌜ Placed at ⌝ }
-    requires { ⌜ (keeping ≡ true → KeepableAt at t (typeIn found) (now cursors) (now text) (now rows)) ⌝ }
+    requires { ⌜ (keeping ≡ true → KeepableAt at t (typeIn (numbersOf (set .kind)) found) (now cursors) (now text) (now rows)) ⌝ }
     ensures { λ r. ⌜ r ≡ turnOf keeping (lent bytes) (lent text) (at .len) (Got t c) ⌝ }
-    ensures { λ _. ⌜ memoryLeft text rows cursors ≡ takePut keeping (lent bytes) t (typeIn found) c at (memoryLent text rows cursors) ⌝ }
+    ensures { λ _. ⌜ memoryLeft text rows cursors ≡ takePut keeping (lent bytes) t (typeIn (numbersOf (set .kind)) found) c at (memoryLent text rows cursors) ⌝ }
 {
     if keeping {
-        let ty = keeping::type_in(found);
+        let ty = keeping::type_in(set, found);
         let p = at.p;
         let to = at.used + at.len;
         let row = at.row + (p.0 - 1);

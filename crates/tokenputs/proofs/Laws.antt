@@ -14,34 +14,34 @@ use Rattle.choices.specs.Choices.{choiceAt, choicesFrom}
 use Rattle.laying.specs.declared.Pass.{Pass}
 use Rattle.laying.specs.Puts.{put}
 use Rattle.laying.specs.Passes.{World, stepOf, runOf, Room, Roomy}
-use Rattle.tokens.specs.Types.{typeNumber}
+use Rattle.tokens.specs.Types.{Rules, typeNumber}
 use Rattle.tokenputs.specs.TokenPuts.{choiceType, choicePuts, tokenPuts}
 use Rattle.valueputs.specs.ValuePuts.{valuePuts}
 
 -- Type and value
 
-pub choice-room : (pass : Pass) (s : List ℕ) (p : ℕ) (c : Choice) (w : World) → Roomy pass (choicePuts s p c) w
-    → Room pass (spanOf p 0) 1 w × Roomy pass (valuePuts s p c) (stepOf pass (put (spanOf p 0) (typeNumber (choiceType c) ∷ [])) w)
+pub choice-room : (rules : Rules) (pass : Pass) (s : List ℕ) (p : ℕ) (c : Choice) (w : World) → Roomy pass (choicePuts rules s p c) w
+    → Room pass (spanOf p 0) 1 w × Roomy pass (valuePuts s p c) (stepOf pass (put (spanOf p 0) (typeNumber (rules .numbers) (choiceType c) ∷ [])) w)
 unfolding choicePuts Roomy
-choice-room pass s p c w r = r
+choice-room rules pass s p c w r = r
 
-pub choice-ran : (pass : Pass) (s : List ℕ) (p : ℕ) (c : Choice) (w u v : World) → u ≡ stepOf pass (put (spanOf p 0) (typeNumber (choiceType c) ∷ [])) w
-    → v ≡ runOf pass (valuePuts s p c) u → v ≡ runOf pass (choicePuts s p c) w
+pub choice-ran : (rules : Rules) (pass : Pass) (s : List ℕ) (p : ℕ) (c : Choice) (w u v : World) → u ≡ stepOf pass (put (spanOf p 0) (typeNumber (rules .numbers) (choiceType c) ∷ [])) w
+    → v ≡ runOf pass (valuePuts s p c) u → v ≡ runOf pass (choicePuts rules s p c) w
 unfolding choicePuts runOf
-choice-ran pass s p c w u v d e = e ∙ ap (runOf pass (valuePuts s p c)) d
+choice-ran rules pass s p c w u v d e = e ∙ ap (runOf pass (valuePuts s p c)) d
 
 -- The tokens of a name
 
 -- one token more, p being below 128
-pub tokens-more : (r s : List ℕ) (p a b : ℕ) → p < 128 → a < length s
-    → tokenPuts s p (choicesFrom r s (128 - p) p a b) ≡ choicePuts s p (choiceAt r s p a b) ++ tokenPuts s (p + 1) (choicesFrom r s (128 - (p + 1)) (p + 1) (cutAt s p a) (cutAt r p b))
+pub tokens-more : (rules : Rules) (r s : List ℕ) (p a b : ℕ) → p < 128 → a < length s
+    → tokenPuts rules s p (choicesFrom r s (128 - p) p a b) ≡ choicePuts rules s p (choiceAt r s p a b) ++ tokenPuts rules s (p + 1) (choicesFrom r s (128 - (p + 1)) (p + 1) (cutAt s p a) (cutAt r p b))
 unfolding choicesFrom tokenPuts
-tokens-more r s p a b h k =
-    ap (λ (f : ℕ). tokenPuts s p (choicesFrom r s f p a b)) (let e : 128 - p ≡ suc (128 - (p + 1)) = omega arith in e)
-    ∙ ap (tokenPuts s p) (pick-true _ _ (lt-ltb _ _ k))
+tokens-more rules r s p a b h k =
+    ap (λ (f : ℕ). tokenPuts rules s p (choicesFrom r s f p a b)) (let e : 128 - p ≡ suc (128 - (p + 1)) = omega arith in e)
+    ∙ ap (tokenPuts rules s p) (pick-true _ _ (lt-ltb _ _ k))
 
 -- END
-pub tokens-end : (r s : List ℕ) (f p a b : ℕ) → length s ≤ a → tokenPuts s p (choicesFrom r s f p a b) ≡ choicePuts s p End
+pub tokens-end : (rules : Rules) (r s : List ℕ) (f p a b : ℕ) → length s ≤ a → tokenPuts rules s p (choicesFrom r s f p a b) ≡ choicePuts rules s p End
 unfolding choicesFrom tokenPuts
-tokens-end r s zero p a b h = append-nil (choicePuts s p End)
-tokens-end r s (suc f) p a b h = ap (tokenPuts s p) (pick-false _ _ (le-ltb _ _ h)) ∙ append-nil (choicePuts s p End)
+tokens-end rules r s zero p a b h = append-nil (choicePuts rules s p End)
+tokens-end rules r s (suc f) p a b h = ap (tokenPuts rules s p) (pick-false _ _ (le-ltb _ _ h)) ∙ append-nil (choicePuts rules s p End)

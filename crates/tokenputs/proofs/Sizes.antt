@@ -10,6 +10,7 @@ use Rattle.base.proofs.Choice.{pick-true}
 use Rattle.base.proofs.Numbers.{lt-or-ge}
 use Rattle.spans.specs.Spans.{fourBytes}
 use Rattle.block.proofs.Laws.{span-below}
+use Rattle.tokens.specs.Types.{Rules}
 use Rattle.choices.specs.declared.Choice.{Choice}
 use Rattle.choices.specs.declared.Choice.the-variants.{Itself, End}
 use Rattle.splitting.specs.Split.{cutAt}
@@ -24,52 +25,52 @@ use Rattle.tokenputs.specs.TokenPuts.{choicePuts, tokenPuts}
 use Rattle.tokenputs.proofs.Laws.{tokens-end}
 use Rattle.valueputs.proofs.Laws.{value-inside}
 
-choice-inside : (s : List ℕ) (p : ℕ) (c : Choice) → p ≤ 128 → Inside (choicePuts s p c)
+choice-inside : (rules : Rules) (s : List ℕ) (p : ℕ) (c : Choice) → p ≤ 128 → Inside (choicePuts rules s p c)
 unfolding choicePuts
-choice-inside s p c h = (span-below p 0 h (omega arith), value-inside s p c h)
+choice-inside rules s p c h = (span-below p 0 h (omega arith), value-inside s p c h)
 
 -- one step of the tokens
-more : (r s : List ℕ) (f p a b : ℕ) → a < length s
-    → tokenPuts s p (choicesFrom r s (suc f) p a b) ≡ choicePuts s p (choiceAt r s p a b) ++ tokenPuts s (p + 1) (choicesFrom r s f (p + 1) (cutAt s p a) (cutAt r p b))
+more : (rules : Rules) (r s : List ℕ) (f p a b : ℕ) → a < length s
+    → tokenPuts rules s p (choicesFrom r s (suc f) p a b) ≡ choicePuts rules s p (choiceAt r s p a b) ++ tokenPuts rules s (p + 1) (choicesFrom r s f (p + 1) (cutAt s p a) (cutAt r p b))
 unfolding choicesFrom tokenPuts
-more r s f p a b h = ap (tokenPuts s p) (pick-true _ _ (lt-ltb _ _ h))
+more rules r s f p a b h = ap (tokenPuts rules s p) (pick-true _ _ (lt-ltb _ _ h))
 
-none : (r s : List ℕ) (p a b : ℕ) → tokenPuts s p (choicesFrom r s 0 p a b) ≡ choicePuts s p End
+none : (rules : Rules) (r s : List ℕ) (p a b : ℕ) → tokenPuts rules s p (choicesFrom r s 0 p a b) ≡ choicePuts rules s p End
 unfolding choicesFrom tokenPuts
-none r s p a b = append-nil (choicePuts s p End)
+none rules r s p a b = append-nil (choicePuts rules s p End)
 
-pub tokens-inside : (r s : List ℕ) (f p a b : ℕ) → p + f ≤ 128 → Inside (tokenPuts s p (choicesFrom r s f p a b))
-tokens-inside r s zero p a b h = subst Inside (sym (none r s p a b)) (choice-inside s p End (omega arith))
-tokens-inside r s (suc f) p a b h = ⊎-elim
-    (λ l. subst Inside (sym (more r s f p a b l))
-    (inside-append (choicePuts s p (choiceAt r s p a b)) _ (choice-inside s p (choiceAt r s p a b) (omega arith)) (tokens-inside r s f (p + 1) (cutAt s p a) (cutAt r p b) (omega arith))))
-    (λ l. subst Inside (sym (tokens-end r s (suc f) p a b l)) (choice-inside s p End (omega arith)))
+pub tokens-inside : (rules : Rules) (r s : List ℕ) (f p a b : ℕ) → p + f ≤ 128 → Inside (tokenPuts rules s p (choicesFrom r s f p a b))
+tokens-inside rules r s zero p a b h = subst Inside (sym (none rules r s p a b)) (choice-inside rules s p End (omega arith))
+tokens-inside rules r s (suc f) p a b h = ⊎-elim
+    (λ l. subst Inside (sym (more rules r s f p a b l))
+    (inside-append (choicePuts rules s p (choiceAt r s p a b)) _ (choice-inside rules s p (choiceAt r s p a b) (omega arith)) (tokens-inside rules r s f (p + 1) (cutAt s p a) (cutAt r p b) (omega arith))))
+    (λ l. subst Inside (sym (tokens-end rules r s (suc f) p a b l)) (choice-inside rules s p End (omega arith)))
     (lt-or-ge a (length s))
 
-choice-size : (r s : List ℕ) (p a b : ℕ) → a < length s → sizeOf (choicePuts s p (choiceAt r s p a b)) ≤ 6 * (cutAt s p a - a)
+choice-size : (rules : Rules) (r s : List ℕ) (p a b : ℕ) → a < length s → sizeOf (choicePuts rules s p (choiceAt r s p a b)) ≤ 6 * (cutAt s p a - a)
 unfolding choicePuts valuePuts piecePuts fourBytes
-choice-size r s p a b h =
+choice-size rules r s p a b h =
     let q = cut-range s a h p in
     let n : ℕ = cutAt s p a - a in
-    let P : Choice → Type 0 = λ c. sizeOf (choicePuts s p c) ≤ 6 * n in
+    let P : Choice → Type 0 = λ c. sizeOf (choicePuts rules s p c) ≤ 6 * n in
     choice-cases P (omega arith) (λ d. omega arith) (λ d. omega arith) r s p a b
     (piece-cases (λ t. P (Itself t)) s p a h (omega (arith, length-text s a (cutAt s p a) (omega arith) (q .1))) (omega arith) (λ m. omega arith) (λ x k. omega arith))
 
-end-size : (s : List ℕ) (p : ℕ) → sizeOf (choicePuts s p End) ≡ 1
+end-size : (rules : Rules) (s : List ℕ) (p : ℕ) → sizeOf (choicePuts rules s p End) ≡ 1
 unfolding choicePuts valuePuts
-end-size s p = refl
+end-size rules s p = refl
 
-pub tokens-size : (r s : List ℕ) (f p a b : ℕ) → a ≤ length s → sizeOf (tokenPuts s p (choicesFrom r s f p a b)) ≤ 6 * (length s - a) + 1
-tokens-size r s zero p a b h = omega (arith, ap sizeOf (none r s p a b), end-size s p)
-tokens-size r s (suc f) p a b h = ⊎-elim
+pub tokens-size : (rules : Rules) (r s : List ℕ) (f p a b : ℕ) → a ≤ length s → sizeOf (tokenPuts rules s p (choicesFrom r s f p a b)) ≤ 6 * (length s - a) + 1
+tokens-size rules r s zero p a b h = omega (arith, ap sizeOf (none rules r s p a b), end-size rules s p)
+tokens-size rules r s (suc f) p a b h = ⊎-elim
     (λ l.
     let q = cut-range s a l p in
     omega (
       arith,
-      ap sizeOf (more r s f p a b l),
-      size-append (choicePuts s p (choiceAt r s p a b)) (tokenPuts s (p + 1) (choicesFrom r s f (p + 1) (cutAt s p a) (cutAt r p b))),
-      choice-size r s p a b l,
-      tokens-size r s f (p + 1) (cutAt s p a) (cutAt r p b) (q .1),
+      ap sizeOf (more rules r s f p a b l),
+      size-append (choicePuts rules s p (choiceAt r s p a b)) (tokenPuts rules s (p + 1) (choicesFrom r s f (p + 1) (cutAt s p a) (cutAt r p b))),
+      choice-size rules r s p a b l,
+      tokens-size rules r s f (p + 1) (cutAt s p a) (cutAt r p b) (q .1),
     ))
-    (λ l. omega (arith, ap sizeOf (tokens-end r s (suc f) p a b l), end-size s p))
+    (λ l. omega (arith, ap sizeOf (tokens-end rules r s (suc f) p a b l), end-size rules s p))
     (lt-or-ge a (length s))

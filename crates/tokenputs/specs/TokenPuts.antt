@@ -4,7 +4,7 @@ use mathlib.Core.List.{List, [], _∷_, _++_}
 use Rattle.block.specs.Block.{spanOf}
 use Rattle.block.specs.Streams.{typeStream}
 use Rattle.tokens.specs.declared.TokenType.{TokenType}
-use Rattle.tokens.specs.Types.{typeNumber}
+use Rattle.tokens.specs.Types.{Rules, typeNumber}
 use Rattle.pieces.specs.declared.Piece.{Piece}
 use Rattle.pieces.specs.declared.Piece.the-variants.{String, Char, Digits, Digits0}
 use Rattle.choices.specs.declared.Choice.{Choice}
@@ -27,10 +27,10 @@ choiceType Match = type.Match
 choiceType End = type.End
 
 -- its type, then its value
-unfoldable pub choicePuts : List ℕ → ℕ → Choice → List Put
-choicePuts s p c = put (spanOf p typeStream) (typeNumber (choiceType c) ∷ []) ∷ valuePuts s p c
+unfoldable pub choicePuts : Rules → List ℕ → ℕ → Choice → List Put
+choicePuts rules s p c = put (spanOf p typeStream) (typeNumber (rules .numbers) (choiceType c) ∷ []) ∷ valuePuts s p c
 
 -- the choices for a name's tokens, from position p on
-unfoldable pub tokenPuts : List ℕ → ℕ → List Choice → List Put
-tokenPuts s p [] = []
-tokenPuts s p (c ∷ cs) = choicePuts s p c ++ tokenPuts s (p + 1) cs
+unfoldable pub tokenPuts : Rules → List ℕ → ℕ → List Choice → List Put
+tokenPuts rules s p [] = []
+tokenPuts rules s p (c ∷ cs) = choicePuts rules s p c ++ tokenPuts rules s (p + 1) cs

@@ -3,9 +3,11 @@ ghost use mathlib.Core.Path.{_≡_};
 ghost use Prim.Native.Nat.{_≤_, _<_};
 ghost use Rattle.classes.specs.Classes.{classTable};
 ghost use Rattle.choices.specs.Choices.{ChoiceWithin, choicesOf};
+ghost use Rattle.tokens.specs.Types.{rulesOf};
 ghost use Rattle.laying.specs.Passes.{world, runOf, Roomy};
 ghost use Rattle.tokenputs.specs.TokenPuts.{pieceType, choiceType, choicePuts, tokenPuts};
 ghost use Rattle.base.specs.Lent.{lent, left};
+use block::Setting;
 use block::stream;
 use choices::Choice;
 use laying::Pass;
@@ -38,6 +40,7 @@ fn choice_type(c: Choice) -> TokenType
 
 // Its type, then its value.
 fn put_choice(
+    set: Setting,
     pass: Pass,
     total: u32,
     directory: &mut [u32],
@@ -47,10 +50,11 @@ fn put_choice(
     c: Choice,
 ) -> u32
     requires { ⌜ (p .0 ≤ 128) × ChoiceWithin (now name) c ⌝ }
-    requires { ⌜ Roomy pass (choicePuts (now name) (p .0) c) (world total (now directory) (now bytes)) ⌝ }
-    ensures { λ r. ⌜ world r (left directory) (left bytes) ≡ runOf pass (choicePuts (lent name) (p .0) c) (world total (lent directory) (lent bytes)) ⌝ }
+    requires { ⌜ Roomy pass (choicePuts (rulesOf set) (now name) (p .0) c) (world total (now directory) (now bytes)) ⌝ }
+    ensures { λ r. ⌜ world r (left directory) (left bytes) ≡ runOf pass (choicePuts (rulesOf set) (lent name) (p .0) c) (world total (lent directory) (lent bytes)) ⌝ }
 {
-    let b = tokens::type_number(choice_type(c));
+    let kind = set.kind;
+    let b = tokens::type_number(kind, choice_type(c));
     let span = block::span_of(p, stream::TYPE);
     let next = laying::put_byte(pass, total, directory, bytes, span, b);
     valueputs::put_value(pass, next, directory, bytes, name, p, c)
@@ -58,6 +62,7 @@ fn put_choice(
 
 // The tokens of a name and END; the earlier name is split again in step.
 pub fn put_tokens(
+    set: Setting,
     pass: Pass,
     total: u32,
     directory: &mut [u32],
@@ -67,8 +72,8 @@ pub fn put_tokens(
     name: &[u8],
 ) -> u32
     requires { ⌜ now table ≡ classTable ⌝ }
-    requires { ⌜ Roomy pass (tokenPuts (now name) 1 (choicesOf (now before) (now name))) (world total (now directory) (now bytes)) ⌝ }
-    ensures { λ r. ⌜ world r (left directory) (left bytes) ≡ runOf pass (tokenPuts (lent name) 1 (choicesOf (lent before) (lent name))) (world total (lent directory) (lent bytes)) ⌝ }
+    requires { ⌜ Roomy pass (tokenPuts (rulesOf set) (now name) 1 (choicesOf (now before) (now name))) (world total (now directory) (now bytes)) ⌝ }
+    ensures { λ r. ⌜ world r (left directory) (left bytes) ≡ runOf pass (tokenPuts (rulesOf set) (lent name) 1 (choicesOf (lent before) (lent name))) (world total (lent directory) (lent bytes)) ⌝ }
 {
     let mut sum = total;
     let mut p: u32 = 1;
@@ -79,12 +84,13 @@ pub fn put_tokens(
         let e = splitting::cut_at(table, name, here, a);
         let f = splitting::cut_at(table, before, here, b);
         let c = choices::choice_at(table, before, name, here, a, e, b, f);
-        sum = put_choice(pass, sum, directory, bytes, name, here, c);
+        sum = put_choice(set, pass, sum, directory, bytes, name, here, c);
         a = e.end;
         b = f.end;
         p += 1;
     }
-    let b = tokens::type_number(TokenType::End);
+    let kind = set.kind;
+    let b = tokens::type_number(kind, TokenType::End);
     let span = block::span_of(Position(p), stream::TYPE);
     laying::put_byte(pass, sum, directory, bytes, span, b)
 }

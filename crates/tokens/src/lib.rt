@@ -8,10 +8,11 @@ ghost use Rattle.base.specs.Choice.{pick};
 ghost use Rattle.base.specs.Memory.{written, part};
 ghost use Rattle.classes.specs.Classes.{allAllowed};
 ghost use Rattle.kept.specs.Tables.{rowSize};
-ghost use Rattle.tokens.specs.Types.{typeOf, typeNumber};
+ghost use Rattle.tokens.specs.Types.{draftNumbers, numbersOf, typeOf, typeNumber};
 ghost use Rattle.tokens.specs.Tokens.{bytesOf, kindOf, numberOf, widthOf, lengthOf, rowOf};
 ghost use Rattle.tokens.specs.Inside.{Inside, KeptBelow};
 ghost use Rattle.base.specs.Lent.{lent, left};
+use block::Kind;
 use kept::Row;
 use kept::tables;
 
@@ -49,12 +50,24 @@ pub enum Token {
 }
 
 // The types at position 0, which are no tokens.
-pub const DUP: u8 = 5;
+pub fn dup_number(kind: Kind) -> u8
+    ensures { λ r. ⌜ r ≡ numbersOf kind .dup ⌝ }
+{
+    match kind {
+        Kind::Draft => 5,
+    }
+}
 
-pub const DIFF: u8 = 6;
+pub fn diff_number(kind: Kind) -> u8
+    ensures { λ r. ⌜ r ≡ numbersOf kind .diff ⌝ }
+{
+    match kind {
+        Kind::Draft => 6,
+    }
+}
 
-pub fn type_of(b: u8) -> TokenType
-    ensures { λ r. ⌜ r ≡ typeOf b ⌝ }
+fn draft_type(b: u8) -> TokenType
+    ensures { λ r. ⌜ r ≡ typeOf draftNumbers b ⌝ }
 {
     match b {
         1 => TokenType::String,
@@ -69,9 +82,17 @@ pub fn type_of(b: u8) -> TokenType
     }
 }
 
+pub fn type_of(kind: Kind, b: u8) -> TokenType
+    ensures { λ r. ⌜ r ≡ typeOf (numbersOf kind) b ⌝ }
+{
+    match kind {
+        Kind::Draft => draft_type(b),
+    }
+}
+
 // The byte that says a type.
-pub fn type_number(t: TokenType) -> u8
-    ensures { λ r. ⌜ r ≡ typeNumber t ⌝ }
+fn draft_number(t: TokenType) -> u8
+    ensures { λ r. ⌜ r ≡ typeNumber draftNumbers t ⌝ }
 {
     match t {
         TokenType::String => 1,
@@ -83,6 +104,14 @@ pub fn type_number(t: TokenType) -> u8
         TokenType::Match => 13,
         TokenType::End => 14,
         TokenType::Other => 0,
+    }
+}
+
+pub fn type_number(kind: Kind, t: TokenType) -> u8
+    ensures { λ r. ⌜ r ≡ typeNumber (numbersOf kind) t ⌝ }
+{
+    match kind {
+        Kind::Draft => draft_number(t),
     }
 }
 

@@ -22,7 +22,7 @@ use Rattle.values.specs.declared.Step.the-variants as step
 use Rattle.steps.specs.Steps.{stepAt}
 use Rattle.steps.proofs.Moves.{Moved}
 use Rattle.steps.proofs.Laws.{Known, Given, given}
-use Rattle.names.specs.Names.{typeIn}
+use Rattle.names.specs.Names.{typeIn, typeAt}
 use Rattle.names.specs.Keeps.{Memory, putToken}
 use Rattle.taking.specs.declared.Place.{Place}
 use Rattle.taking.specs.declared.Turn.{Turn}
@@ -69,18 +69,18 @@ module _ (s : Source) (e : Earlier) (at : Place) (k : Known s e (at .used) (at .
   unfolding endOf
   end-below i = dirBelow (2 * i + 1)
 
-  type-here : typeIn (byteIn s (at .p .0) 0) ≡ typeOf (told .code)
+  type-here : typeAt s (at .p .0) ≡ typeOf (s .rules .numbers) (told .code)
   unfolding typeIn
   type-here = rw (told .typed)
 
-  width-there : typeOf (told .code) ≡ type.Digits0 → cursorOf (s .cur) (spanOf (at .p .0) dzlenStream) + 1 ≤ endOf (s .dir) (spanOf (at .p .0) dzlenStream)
+  width-there : typeOf (s .rules .numbers) (told .code) ≡ type.Digits0 → cursorOf (s .cur) (spanOf (at .p .0) dzlenStream) + 1 ≤ endOf (s .dir) (spanOf (at .p .0) dzlenStream)
   width-there h = subst (λ (ty : TokenType). Moved s (at .p .0) (c .0) ty) h (told .moved) .1
 
   pub token-inside : Inside (s .bytes) (e .text) t
   token-inside = told .inside
 
   pub token-keeps : {found : NextByte} → found ≡ byteIn s (at .p .0) 0 → RoomAt (stepAt s e (at .p .0)) at (e .text) (e .rows)
-      → Keepable t (typeIn found) (at .p .0) (at .used + at .len) (at .row + (at .p .0 - 1)) (s .cur) (e .text) (e .rows)
+      → Keepable t (typeIn (s .rules .numbers) found) (at .p .0) (at .used + at .len) (at .row + (at .p .0 - 1)) (s .cur) (e .text) (e .rows)
   token-keeps f r =
       let room = subst (λ (x : Step). RoomAt x at (e .text) (e .rows)) q r in
       record {
@@ -89,5 +89,5 @@ module _ (s : Source) (e : Earlier) (at : Place) (k : Known s e (at .used) (at .
         table = room .1;
         spans = k .opened .table;
         typed = omega (arith, told .there, end-below (spanOf (at .p .0) 0));
-        movable = λ h. omega (arith, width-there (sym type-here ∙ sym (ap typeIn f) ∙ h), end-below (spanOf (at .p .0) dzlenStream));
+        movable = λ h. omega (arith, width-there (sym type-here ∙ sym (ap (typeIn (s .rules .numbers)) f) ∙ h), end-below (spanOf (at .p .0) dzlenStream));
       }

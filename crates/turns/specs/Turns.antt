@@ -5,26 +5,27 @@ use mathlib.Core.List.{List}
 use denote.Ref.{RefT, now}
 use lib.ListN.{length}
 use Rattle.base.specs.Lent.{Buffer, lent}
-use Rattle.block.specs.Streams.{typeStream}
+use Rattle.block.specs.declared.Setting.{Setting}
 use Rattle.kept.specs.Tables.{rowSize}
 use Rattle.tokens.specs.declared.TokenType.{TokenType}
+use Rattle.tokens.specs.Types.{rulesOf}
 use Rattle.tokens.specs.Tokens.{lengthOf}
 use Rattle.values.specs.declared.Step.{Step}
 use Rattle.values.specs.declared.Step.the-variants as step
-use Rattle.sources.specs.Source.{source, earlier, byteIn, blockLent}
+use Rattle.sources.specs.Source.{source, earlier, blockLent}
 use Rattle.steps.specs.Steps.{stepAt}
-use Rattle.names.specs.Names.{typeIn}
+use Rattle.names.specs.Names.{typeAt}
 use Rattle.names.specs.Keeps.{Memory, memoryLent}
 use Rattle.taking.specs.declared.Place.{Place}
 use Rattle.taking.specs.Taking.{takePut}
 
 -- what stands at a place of the block, over the earlier name's rows
-abbrev pub stepNow : RefT (List ℕ) → RefT (List ℕ) → RefT (List ℕ) → RefT (List ℕ) → RefT (List ℕ) → ℕ → ℕ → Place → Step
-stepNow bytes dir cursors text rows first count at =
-    stepAt (source (now bytes) (now dir) (now cursors)) (earlier (now text) (now rows) first count) (at .p .0)
+abbrev pub stepNow : Setting → RefT (List ℕ) → RefT (List ℕ) → RefT (List ℕ) → RefT (List ℕ) → RefT (List ℕ) → ℕ → ℕ → Place → Step
+stepNow set bytes dir cursors text rows first count at =
+    stepAt (source (rulesOf set) (now bytes) (now dir) (now cursors)) (earlier (now text) (now rows) first count) (at .p .0)
 
-abbrev pub stepLent : Buffer → Buffer → Buffer → Buffer → Buffer → ℕ → ℕ → Place → Step
-stepLent bytes dir cursors text rows = stepNow (bytes .entry) (dir .entry) (cursors .entry) (text .entry) (rows .entry)
+abbrev pub stepLent : Setting → Buffer → Buffer → Buffer → Buffer → Buffer → ℕ → ℕ → Place → Step
+stepLent set bytes dir cursors text rows = stepNow set (bytes .entry) (dir .entry) (cursors .entry) (text .entry) (rows .entry)
 
 -- what a turn puts down
 unfoldable pub turnPut : Bool → List ℕ → Step → TokenType → Place → Memory → Memory
@@ -32,9 +33,9 @@ turnPut keeping bytes (step.Got t c) ty at m = takePut keeping bytes t ty c at m
 turnPut keeping bytes step.End ty at m = m
 turnPut keeping bytes (step.Refused r) ty at m = m
 
-abbrev pub turnPutLent : Bool → Buffer → Buffer → Buffer → Buffer → Buffer → ℕ → ℕ → Place → Memory
-turnPutLent keeping bytes dir cursors text rows first count at =
-    turnPut keeping (lent bytes) (stepLent bytes dir cursors text rows first count at) (typeIn (byteIn (blockLent bytes dir cursors) (at .p .0) typeStream)) at (memoryLent text rows cursors)
+abbrev pub turnPutLent : Setting → Bool → Buffer → Buffer → Buffer → Buffer → Buffer → ℕ → ℕ → Place → Memory
+turnPutLent set keeping bytes dir cursors text rows first count at =
+    turnPut keeping (lent bytes) (stepLent set bytes dir cursors text rows first count at) (typeAt (blockLent set bytes dir cursors) (at .p .0)) at (memoryLent text rows cursors)
 
 -- room for a token and its row
 abbrev pub RoomAt : Step → Place → List ℕ → List ℕ → Type 0

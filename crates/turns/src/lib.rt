@@ -9,6 +9,7 @@ ghost use Rattle.names.specs.Keeps.{memoryLeft};
 ghost use Rattle.taking.specs.Taking.{placeOf, Placed, turnOf};
 ghost use Rattle.turns.specs.Turns.{stepNow, stepLent, turnPutLent, RoomAt};
 ghost use Rattle.base.specs.Lent.{lent};
+use block::Setting;
 use block::stream;
 use spans::Position;
 use taking::Place;
@@ -28,6 +29,7 @@ pub fn place(p: Position, len: u32, used: u32, row: u32) -> Place
 
 // What stands at a position, judged or kept.
 pub fn turn(
+    set: Setting,
     keeping: bool,
     bytes: &[u8],
     dir: &[u32],
@@ -41,14 +43,14 @@ pub fn turn(
     requires { ⌜ Open (now bytes) (now dir) (now cursors) ⌝ }
     requires { ⌜ Rows (at .used) (earlier (now text) (now rows) first count) ⌝ }
     requires { ⌜ Placed at × (first + count ≤ at .row) ⌝ }
-    requires { ⌜ (keeping ≡ true → RoomAt (stepNow bytes dir cursors text rows first count at) at (now text) (now rows)) ⌝ }
-    ensures { λ r. ⌜ r ≡ turnOf keeping (lent bytes) (lent text) (at .len) (stepLent bytes dir cursors text rows first count at) ⌝ }
-    ensures { λ _. ⌜ memoryLeft text rows cursors ≡ turnPutLent keeping bytes dir cursors text rows first count at ⌝ }
+    requires { ⌜ (keeping ≡ true → RoomAt (stepNow set bytes dir cursors text rows first count at) at (now text) (now rows)) ⌝ }
+    ensures { λ r. ⌜ r ≡ turnOf keeping (lent bytes) (lent text) (at .len) (stepLent set bytes dir cursors text rows first count at) ⌝ }
+    ensures { λ _. ⌜ memoryLeft text rows cursors ≡ turnPutLent set keeping bytes dir cursors text rows first count at ⌝ }
 {
     let p = at.p;
     let found = sources::byte_in(bytes, dir, cursors, p, stream::TYPE);
-    match steps::typed_step(bytes, dir, cursors, text, rows, first, count, p, found) {
-        Step::Got(t, c) => taking::take(keeping, t, found, c, bytes, cursors, text, rows, at),
+    match steps::typed_step(set, bytes, dir, cursors, text, rows, first, count, p, found) {
+        Step::Got(t, c) => taking::take(set, keeping, t, found, c, bytes, cursors, text, rows, at),
         Step::End => Turn::End,
         Step::Refused(r) => Turn::Refused(r),
     }

@@ -2,7 +2,9 @@
 ghost use mathlib.Core.Path.{_≡_};
 ghost use Prim.Native.Nat.{_≤_};
 ghost use Rattle.block.specs.Open.{Open};
-ghost use Rattle.sources.specs.Source.{blockLent};
+ghost use Rattle.sources.specs.Source.{source};
+ghost use Rattle.tokens.specs.Types.{Rules};
+ghost use Rattle.base.specs.Lent.{lent};
 ghost use Rattle.values.specs.Values.{stringStep, charStep, digitsStep, withWidth, paddedOf, paddedIn, paddedStep, digits0Step};
 use block::stream;
 use spans::Cursor;
@@ -107,7 +109,7 @@ fn padded_of(number: NextFour, width: NextByte) -> NextPadded
 fn padded_in(bytes: &[u8], dir: &[u32], cursors: &[u32], p: Position) -> NextPadded
     requires { ⌜ Open (now bytes) (now dir) (now cursors) ⌝ }
     requires { ⌜ p .0 ≤ 128 ⌝ }
-    ensures { λ r. ⌜ r ≡ paddedIn (blockLent bytes dir cursors) (p .0) ⌝ }
+    ensures { λ r. ⌜ ((rules : Rules) → r ≡ paddedIn (source rules (lent bytes) (lent dir) (lent cursors)) (p .0)) ⌝ }
 {
     let number = sources::four_in(bytes, dir, cursors, p, stream::DIGITS0);
     let width = sources::byte_in(bytes, dir, cursors, p, stream::DZLEN);
@@ -126,7 +128,7 @@ fn digits0_step(found: NextPadded) -> Step
 pub fn digits0_at(bytes: &[u8], dir: &[u32], cursors: &[u32], p: Position) -> Step
     requires { ⌜ Open (now bytes) (now dir) (now cursors) ⌝ }
     requires { ⌜ p .0 ≤ 128 ⌝ }
-    ensures { λ r. ⌜ r ≡ digits0Step (paddedIn (blockLent bytes dir cursors) (p .0)) ⌝ }
+    ensures { λ r. ⌜ ((rules : Rules) → r ≡ digits0Step (paddedIn (source rules (lent bytes) (lent dir) (lent cursors)) (p .0))) ⌝ }
 {
     digits0_step(padded_in(bytes, dir, cursors, p))
 }

@@ -15,11 +15,12 @@ use Rattle.block.specs.Block.{spanOf, cursorOf}
 use Rattle.block.specs.Open.{Open}
 use Rattle.kept.specs.Tables.{rowSize}
 use Rattle.tokens.specs.declared.Token.{Token}
+use Rattle.tokens.specs.Types.{Rules}
 use Rattle.tokens.specs.Tokens.{bytesOf, lengthOf}
 use Rattle.tokens.proofs.Laws.{length-bytes}
 use Rattle.values.specs.declared.Step.{Step}
 use Rattle.values.specs.declared.Step.the-variants as step
-use Rattle.sources.specs.Source.{Source, source, Earlier, earlier, byteIn}
+use Rattle.sources.specs.Source.{Source, source, Earlier, earlier}
 use Rattle.steps.specs.Steps.{stepAt}
 use Rattle.repeats.specs.Sound.{Rows}
 use Rattle.steps.proofs.Laws.{Known, given}
@@ -30,7 +31,7 @@ use Rattle.running.specs.declared.Ran.the-variants as ran
 use Rattle.taking.specs.declared.Place.{Place}
 use Rattle.taking.specs.declared.Turn.{Turn}
 use Rattle.taking.specs.declared.Turn.the-variants as turn
-use Rattle.names.specs.Names.{Named, named, typeIn, printable, nameOf}
+use Rattle.names.specs.Names.{Named, named, typeAt, printable, nameOf}
 use Rattle.moving.specs.Moves.{past}
 use Rattle.names.specs.Judge.{summary, draftOf}
 use Rattle.names.specs.Keeps.{Memory, memory, putToken, putName, Roomy}
@@ -48,6 +49,7 @@ use Rattle.running.proofs.Running.{run-judges, run-spoils, run-leaves, going-re
 -- a walk: which way it is taken, what it looks at and where it puts down; the memory is that at its beginning
 pub record Walk : Type 0 where
   pub keeping : Bool
+  pub rules : Rules
   pub bytes : List ℕ
   pub dir : List ℕ
   pub start : Memory
@@ -58,7 +60,7 @@ pub record Walk : Type 0 where
   pub end : ℕ
 
 abbrev pub src : Walk → Memory → Source
-src x m = source (x .bytes) (x .dir) (m .cur)
+src x m = source (x .rules) (x .bytes) (x .dir) (m .cur)
 
 abbrev pub back : Walk → Memory → Earlier
 back x m = earlier (m .text) (m .rows) (x .first) (x .count)
@@ -79,7 +81,7 @@ pub record Asked (x : Walk) : Type 0 where
   pub dirBelow : Below (2 ^ 32) (x .dir)
 
 abbrev pub Keeping : Walk → Memory → ℕ → ℕ → Type 0
-Keeping x m p len = Going (x .bytes) (x .dir) (x .start .text) (x .start .rows) (x .first) (x .count) (x .used) (x .row) (draftOf (name x)) (m .cur) (m .text) (m .rows) p (x .used + len)
+Keeping x m p len = Going (x .rules) (x .bytes) (x .dir) (x .start .text) (x .start .rows) (x .first) (x .count) (x .used) (x .row) (draftOf (name x)) (m .cur) (m .text) (m .rows) p (x .used + len)
 
 -- at position p, with a name of len bytes so far
 pub record Walking (x : Walk) (m : Memory) (p len : ℕ) : Type 0 where
@@ -111,7 +113,7 @@ TurnAsks x m at = Open (x .bytes) (x .dir) (m .cur) × (Rows (at .used) (back x 
 
 abbrev pub TurnGives : Walk → Memory → Place → Turn → Memory → Type 0
 TurnGives x m at r m' = (r ≡ turnOf (x .keeping) (x .bytes) (m .text) (at .len) (stepAt (src x m) (back x m) (at .p .0)))
-    × (m' ≡ turnPut (x .keeping) (x .bytes) (stepAt (src x m) (back x m) (at .p .0)) (typeIn (byteIn (src x m) (at .p .0) 0)) at m)
+    × (m' ≡ turnPut (x .keeping) (x .bytes) (stepAt (src x m) (back x m) (at .p .0)) (typeAt (src x m) (at .p .0)) at m)
 
 -- what a walk answers and leaves
 abbrev pub Done : Walk → Judged → Memory → Type 0
@@ -136,7 +138,7 @@ module _ (x : Walk) (a : Asked x) where
         short = omega (arith, g .short, g .place);
         opened = g .opened;
         known = g .known;
-        reaches = going-reaches _ _ _ _ _ _ _ _ (name x) (a .room k) _ _ _ _ _ g (x .end) (a .reaches);
+        reaches = going-reaches _ _ _ _ _ _ _ _ _ (name x) (a .room k) _ _ _ _ _ g (x .end) (a .reaches);
         belowText = g .belowText;
         belowRows = g .belowRows;
         lengthText = g .lengthText;
@@ -163,8 +165,8 @@ module _ (x : Walk) (a : Asked x) where
         still = λ _. refl;
         going = λ k.
             let z : x .used ≡ x .used + 0 = omega arith in
-            subst (λ (at : ℕ). Going (x .bytes) (x .dir) (x .start .text) (x .start .rows) (x .first) (x .count) (x .used) (x .row) (draftOf (name x)) (x .start .cur) (x .start .text) (x .start .rows) 1 at) z
-            (begun _ _ _ _ _ _ _ _ (x .row) (name x) refl (a .room k .whole) (a .opened) (a .known) bt br);
+            subst (λ (at : ℕ). Going (x .rules) (x .bytes) (x .dir) (x .start .text) (x .start .rows) (x .first) (x .count) (x .used) (x .row) (draftOf (name x)) (x .start .cur) (x .start .text) (x .start .rows) 1 at) z
+            (begun _ _ _ _ _ _ _ _ _ (x .row) (name x) refl (a .room k .whole) (a .opened) (a .known) bt br);
       }
 
   module _ (m : Memory) (p len : ℕ) (w : Walking x m p len) where
@@ -218,7 +220,7 @@ module _ (x : Walk) (a : Asked x) where
               (w .low, (high, w .short)),
               (
                 (a .near, (a .behind, a .few)),
-                λ k q l h. run-room _ _ _ _ _ _ _ _ (name x) (a .room k) (a .bytesBelow) (a .dirBelow) _ _ _ _ _ (w .going k) (x .end) (w .reaches) q l h,
+                λ k q l h. run-room _ _ _ _ _ _ _ _ _ (name x) (a .room k) (a .bytesBelow) (a .dirBelow) _ _ _ _ _ (w .going k) (x .end) (w .reaches) q l h,
               ),
             ),
           ),
@@ -242,7 +244,7 @@ module _ (x : Walk) (a : Asked x) where
             by-test (x .keeping)
             (λ k.
             kept-walks k m' q l
-            (run-keeps _ _ _ _ _ _ _ _ (name x) (a .room k) (a .bytesBelow) (a .dirBelow) _ _ _ _ _ (w .going k) (x .end) (w .reaches) q l _ _ _ (sym is ∙ h) (run-puts true k m' e) bt br))
+            (run-keeps _ _ _ _ _ _ _ _ _ (name x) (a .room k) (a .bytesBelow) (a .dirBelow) _ _ _ _ _ (w .going k) (x .end) (w .reaches) q l _ _ _ (sym is ∙ h) (run-puts true k m' e) bt br))
             (λ f.
             subst (λ (y : Memory). Walking x y q l)
             (sym (run-puts false f m' e ∙ run-leaves _ _ _ _ _ _ _))
@@ -252,7 +254,7 @@ module _ (x : Walk) (a : Asked x) where
           → m' ≡ runPut (x .keeping) (back x m) (x .used) (x .row) p len r m → Done x (judged.Refused 8) m'
       walks-long r is h m' e =
           by-test (x .keeping)
-          (λ k. absurd (never-long _ _ _ _ _ _ _ _ (name x) (a .room k) (a .bytesBelow) (a .dirBelow) _ _ _ _ _ (w .going k) (x .end) (w .reaches) (sym is ∙ h)))
+          (λ k. absurd (never-long _ _ _ _ _ _ _ _ _ (name x) (a .room k) (a .bytesBelow) (a .dirBelow) _ _ _ _ _ (w .going k) (x .end) (w .reaches) (sym is ∙ h)))
           (λ f.
           still-done f
           (run-spoils (src x m) (back x m) (x .used) (x .end) p len _ (w .known) (w .reaches) (w .low) high (w .short) (w .judges) (sym is ∙ h))
@@ -265,7 +267,7 @@ module _ (x : Walk) (a : Asked x) where
       here = placeOf p len (x .used) (x .row)
 
       token-fits : (k : x .keeping ≡ true) (st : Step) → stepAt (src x m) (back x m) p ≡ st → RoomAt st here (m .text) (m .rows)
-      token-fits k (step.Got t c) q = token-room _ _ _ _ _ _ _ _ (name x) (a .room k) (a .bytesBelow) (a .dirBelow) _ _ _ _ _ (w .going k) t c q
+      token-fits k (step.Got t c) q = token-room _ _ _ _ _ _ _ _ _ (name x) (a .room k) (a .bytesBelow) (a .dirBelow) _ _ _ _ _ (w .going k) t c q
       token-fits k step.End q = tt
       token-fits k (step.Refused r) q = tt
 
@@ -283,11 +285,11 @@ module _ (x : Walk) (a : Asked x) where
 
       -- what a turn puts down at a step
       abbrev put : Step → Memory
-      put st = turnPut (x .keeping) (x .bytes) st (typeIn (byteIn (src x m) p 0)) here m
+      put st = turnPut (x .keeping) (x .bytes) st (typeAt (src x m) p) here m
 
       module _ (t : Token) (c : Cursor) (s : stepAt (src x m) (back x m) p ≡ step.Got t c) where
         kept-put : (k : x .keeping ≡ true) (m' : Memory) → m' ≡ put (step.Got t c)
-            → m' ≡ putToken (x .bytes) m t (typeIn (byteIn (src x m) p 0)) p (c .0) (x .used + len) (x .row + (p - 1))
+            → m' ≡ putToken (x .bytes) m t (typeAt (src x m) p) p (c .0) (x .used + len) (x .row + (p - 1))
         unfolding turnPut
         kept-put k m' e = e ∙ pick-true _ _ k
 
@@ -300,8 +302,8 @@ module _ (x : Walk) (a : Asked x) where
         kept-on k v l m' e bt br =
             let z : x .used + len + v ≡ x .used + (len + v) = omega arith in
             kept-walks k m' (p + 1) (len + v)
-            (subst (λ (at : ℕ). Going (x .bytes) (x .dir) (x .start .text) (x .start .rows) (x .first) (x .count) (x .used) (x .row) (draftOf (name x)) (m' .cur) (m' .text) (m' .rows) (p + 1) at) z
-            (turned _ _ _ _ _ _ _ _ (name x) (a .room k) (a .bytesBelow) (a .dirBelow) _ _ _ _ _ (w .going k) t c s _ (m' .text) (m' .rows) (m' .cur) refl (kept-put k m' e) v l bt br))
+            (subst (λ (at : ℕ). Going (x .rules) (x .bytes) (x .dir) (x .start .text) (x .start .rows) (x .first) (x .count) (x .used) (x .row) (draftOf (name x)) (m' .cur) (m' .text) (m' .rows) (p + 1) at) z
+            (turned _ _ _ _ _ _ _ _ _ (name x) (a .room k) (a .bytesBelow) (a .dirBelow) _ _ _ _ _ (w .going k) t c s _ (m' .text) (m' .rows) (m' .cur) refl (kept-put k m' e) v l bt br))
 
         judged-on : (f : x .keeping ≡ false) (v : ℕ) → v ≡ lengthOf t → printable (bytesOf (x .bytes) (m .text) t) len ≡ true → (m' : Memory) → m' ≡ put (step.Got t c)
             → Walking x m' (p + 1) (len + v)
@@ -370,7 +372,7 @@ module _ (x : Walk) (a : Asked x) where
       refused-from (step.Refused i) s r q m' e =
           let n : r ≡ i = cc in
           by-test (x .keeping)
-          (λ k. absurd (never-refuses _ _ _ _ _ _ _ _ (name x) (a .room k) (a .bytesBelow) (a .dirBelow) _ _ _ _ _ (w .going k) s))
+          (λ k. absurd (never-refuses _ _ _ _ _ _ _ _ _ (name x) (a .room k) (a .bytesBelow) (a .dirBelow) _ _ _ _ _ (w .going k) s))
           (λ f. still-done f (ap (λ (j : ℕ). judged.Refused j) n ∙ refuses (src x m) (back x m) (129 - p) (129 - (p + 1)) p len (p - 1) _ more (w .judges) s) e)
 
       -- a refusal
@@ -407,7 +409,7 @@ module _ (x : Walk) (a : Asked x) where
         end-asks = (
           ((w .low, high), (w .short, (a .near, w .opened .table))),
           λ k.
-              let e = turns.end-asks _ _ _ _ _ _ _ _ (name x) (a .room k) (a .bytesBelow) (a .dirBelow) _ _ _ _ _ (w .going k) s in
+              let e = turns.end-asks _ _ _ _ _ _ _ _ _ (name x) (a .room k) (a .bytesBelow) (a .dirBelow) _ _ _ _ _ (w .going k) s in
               (e .1, e .0 .1 .1),
         )
 
@@ -436,7 +438,7 @@ module _ (x : Walk) (a : Asked x) where
             (λ k. (
               q ∙ pick-true _ _ k ∙ kept-answer k,
               took _ _ k
-                  (turns.ends _ _ _ _ _ _ _ _ (name x) (a .room k) (a .bytesBelow) (a .dirBelow) _ _ _ _ _ (w .going k) s (c ∙ pick-true _ _ k) (t ∙ pick-true _ _ k)),
+                  (turns.ends _ _ _ _ _ _ _ _ _ (name x) (a .room k) (a .bytesBelow) (a .dirBelow) _ _ _ _ _ (w .going k) s (c ∙ pick-true _ _ k) (t ∙ pick-true _ _ k)),
             ))
             (λ f.
             let te : text' ≡ m .text = t ∙ pick-false _ _ f in

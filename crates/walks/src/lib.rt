@@ -12,6 +12,7 @@ ghost use Rattle.names.specs.Keeps.{Roomy, memoryLent, memoryLeft};
 ghost use Rattle.repeating.specs.Repeats.{Repeats};
 ghost use Rattle.walks.specs.Walks.{nameNow, nameLent, walkPut};
 use block::Block;
+use block::Setting;
 use names::Judged;
 use running::Ran;
 use spans::Position;
@@ -20,7 +21,8 @@ use taking::Turn;
 // Where it is `known` that the earlier name's rows are spelt, a run of MATCHes is repeated in one go.
 // Kept is a name that was judged: its text and byte 10, its rows, and the cursors past it. Its steps are taken in memory that already holds it as far as it is kept, behind all that they look at.
 pub fn walk(
-    keeping: bool,
+    set: Setting,
+    keep: bool,
     known: bool,
     bytes: &[u8],
     dir: &[u32],
@@ -36,16 +38,17 @@ pub fn walk(
     requires { ⌜ Rows used (earlier (now text) (now rows) first count) ⌝ }
     requires { ⌜ (used < 2 ^ 31) × ((first + count ≤ row) × (row < 2 ^ 31)) ⌝ }
     requires { ⌜ Repeats known (earlier (now text) (now rows) first count) ⌝ }
-    requires { ⌜ (keeping ≡ true → Roomy (nameNow bytes dir cursors text rows first count used) (first + count) used row (now text) (now rows)) ⌝ }
-    ensures { λ r. ⌜ r ≡ summary (nameLent bytes dir cursors text rows first count used) ⌝ }
-    ensures { λ _. ⌜ memoryLeft text rows cursors ≡ walkPut keeping used row (nameLent bytes dir cursors text rows first count used) (memoryLent text rows cursors) ⌝ }
+    requires { ⌜ (keep ≡ true → Roomy (nameNow set bytes dir cursors text rows first count used) (first + count) used row (now text) (now rows)) ⌝ }
+    ensures { λ r. ⌜ r ≡ summary (nameLent set bytes dir cursors text rows first count used) ⌝ }
+    ensures { λ _. ⌜ memoryLeft text rows cursors ≡ walkPut keep used row (nameLent set bytes dir cursors text rows first count used) (memoryLent text rows cursors) ⌝ }
 {
     let end = runs::last(known, count);
     let mut p = Position(1);
     let mut len: u32 = 0;
     while p.0 <= Block::TOKENS {
         let Ran::On { p: q, len: l } = running::run(
-            keeping,
+            set,
+            keep,
             end,
             bytes,
             dir,
@@ -62,13 +65,13 @@ pub fn walk(
             return Judged::Refused(8);
         };
         let at = turns::place(q, l, used, row);
-        match turns::turn(keeping, bytes, dir, cursors, text, rows, first, count, at) {
+        match turns::turn(set, keep, bytes, dir, cursors, text, rows, first, count, at) {
             Turn::On(w) => {
                 len = l + w;
                 p = Position(q.0 + 1);
             }
             Turn::End => {
-                return ends::ended(keeping, cursors, text, q, used, l);
+                return ends::ended(keep, cursors, text, q, used, l);
             }
             Turn::Refused(r) => {
                 return Judged::Refused(r);

@@ -21,7 +21,7 @@ use Rattle.block.specs.declared.Refusal.the-variants.{Plain, At}
 use Rattle.writing.specs.declared.WriteAnswer.{WriteAnswer}
 use Rattle.writing.specs.declared.WriteAnswer.the-variants.{Written, Refused}
 use Rattle.inputs.specs.Inputs.{namesAfter, namesOf, ended, goodName, judgedFrom}
-use Rattle.tokens.specs.Types.{typeNumber}
+use Rattle.tokens.specs.Types.{draftPlain, numbersOf, typeNumber, rulesOf}
 use Rattle.tokenputs.specs.TokenPuts.{pieceType, choiceType, choicePuts, tokenPuts}
 use Rattle.valueputs.specs.ValuePuts.{piecePuts, valuePuts}
 use Rattle.nameputs.specs.NamePuts.{headPuts, referencePuts, namePuts, putsFrom, putsOf}
@@ -37,10 +37,10 @@ run =
     ∷ []
 
 abbrev answered : List ℕ → ℕ → WriteAnswer
-answered input room = writeOf input (replicate 2580 7) (replicate room 9) .answer
+answered input room = writeOf (rulesOf draftPlain) input (replicate 2580 7) (replicate room 9) .answer
 
 -- four names of 51 bytes, with room and without; a last name without byte 10, though an earlier one is empty; `A`, then a name with a space
 pub worked : answered run 51 ∷ answered run 50 ∷ answered (10 ∷ 65 ∷ []) 0 ∷ answered (65 ∷ 10 ∷ 32 ∷ 10 ∷ []) 0 ∷ []
     ≡ Written 4 51 ∷ Refused (Plain 9) ∷ Refused (Plain 12) ∷ Refused (At 8 1) ∷ []
-unfolding pick part written isDigit every isAllowed valueOf valueFrom fourBytes spanOf runClass runEnd runLimit runAt cutAt textPiece numberPiece pieceAt same riseOf leanString leanChar byRise leanDigits byRise0 leanDigits0 lean choiceAt choicesFrom choicesOf anew referenceOf leansOn share contentOf joined startIn totalOf namesAfter namesOf ended goodName judgedFrom typeNumber pieceType choiceType piecePuts valuePuts choicePuts tokenPuts headPuts referencePuts namePuts putsFrom putsOf countable laidOf judgedOf writeOf
+unfolding pick part written isDigit every isAllowed valueOf valueFrom fourBytes spanOf runClass runEnd runLimit runAt cutAt textPiece numberPiece pieceAt same riseOf leanString leanChar byRise leanDigits byRise0 leanDigits0 lean choiceAt choicesFrom choicesOf anew referenceOf leansOn share contentOf joined startIn totalOf namesAfter namesOf ended goodName judgedFrom numbersOf typeNumber pieceType choiceType piecePuts valuePuts choicePuts tokenPuts headPuts referencePuts namePuts putsFrom putsOf countable laidOf judgedOf writeOf
 worked = refl

@@ -8,6 +8,7 @@ use lib.Dec.{leb}
 use lib.ListN.{length}
 use Rattle.base.proofs.Choice.{took, left, both-of, both-left, both-right}
 use Rattle.block.specs.declared.Refusal.the-variants.{Plain, At}
+use Rattle.tokens.specs.Types.{Rules}
 use Rattle.laying.specs.Puts.{totalOf, directoryOf, bytesOf}
 use Rattle.inputs.specs.declared.Judged.{Judged}
 use Rattle.inputs.specs.declared.Judged.the-variants.{Fine, Bad}
@@ -17,20 +18,20 @@ use Rattle.writing.specs.Writes.{Writing, writing, countable, laidOf, ju
 use Rattle.filling.specs.Ready.{Ready}
 use Rattle.filling.proofs.Filled.{putsIn}
 
-module _ (input dir bytes : List ℕ) (k : Ready input dir) where
-  module _ {f : Bool} {d y : List ℕ} (e : f ≡ leb (totalOf (putsIn input)) (length bytes)) (same-dir : d ≡ dir) (same-bytes : y ≡ bytes) where
-    pub no-room : f ≡ false → writing (Refused (Plain 9)) d y ≡ laidOf (namesOf input) dir bytes
+module _ (rules : Rules) (input dir bytes : List ℕ) (k : Ready input dir) where
+  module _ {f : Bool} {d y : List ℕ} (e : f ≡ leb (totalOf (putsIn rules input)) (length bytes)) (same-dir : d ≡ dir) (same-bytes : y ≡ bytes) where
+    pub no-room : f ≡ false → writing (Refused (Plain 9)) d y ≡ laidOf rules (namesOf input) dir bytes
     unfolding laidOf
     no-room h = left _ _ (sym e ∙ h) (rw (same-dir, same-bytes))
 
-    pub room : f ≡ true → totalOf (putsIn input) ≤ length y
+    pub room : f ≡ true → totalOf (putsIn rules input) ≤ length y
     room h = rw same-bytes (leb-true _ _ (sym e ∙ h))
 
     pub still-ready : Ready input d
     still-ready = subst (λ (x : List ℕ). Ready input x) (sym same-dir) k
 
-    pub done : {n t : ℕ} {a b : List ℕ} → n ≡ length (namesOf input) → f ≡ true → t ≡ totalOf (putsIn input) → a ≡ directoryOf (putsIn input) → b ≡ bytesOf (putsIn input) y
-        → writing (Written n t) a b ≡ laidOf (namesOf input) dir bytes
+    pub done : {n t : ℕ} {a b : List ℕ} → n ≡ length (namesOf input) → f ≡ true → t ≡ totalOf (putsIn rules input) → a ≡ directoryOf (putsIn rules input) → b ≡ bytesOf (putsIn rules input) y
+        → writing (Written n t) a b ≡ laidOf rules (namesOf input) dir bytes
     unfolding laidOf
     done p h u q r = took _ _ (sym e ∙ h) (rw (p, u, q, r, same-bytes))
 
@@ -48,23 +49,23 @@ pub too-many : (input : List ℕ) → ended input ≡ true → 65536 < length (n
 unfolding countable
 too-many input e h = both-right e (lt-leb _ _ h)
 
-module _ (input dir bytes : List ℕ) where
-  pub refused-1 : (length dir ≡ 2580 → ⊥) → writing (Refused (Plain 1)) dir bytes ≡ writeOf input dir bytes
+module _ (rules : Rules) (input dir bytes : List ℕ) where
+  pub refused-1 : (length dir ≡ 2580 → ⊥) → writing (Refused (Plain 1)) dir bytes ≡ writeOf rules input dir bytes
   unfolding writeOf
   refused-1 f = left _ _ (ne-eqb _ _ f) refl
 
-  pub refused-12 : length dir ≡ 2580 → countable input ≡ false → writing (Refused (Plain 12)) dir bytes ≡ writeOf input dir bytes
+  pub refused-12 : length dir ≡ 2580 → countable input ≡ false → writing (Refused (Plain 12)) dir bytes ≡ writeOf rules input dir bytes
   unfolding writeOf
   refused-12 e f = took _ _ (eq-eqb _ _ e) (left _ _ f refl)
 
-  pub judged : {j : Judged} {w : Writing} → length dir ≡ 2580 → countable input ≡ true → judgedFrom 0 (namesOf input) ≡ j → w ≡ judgedOf j (namesOf input) dir bytes → w ≡ writeOf input dir bytes
+  pub judged : {j : Judged} {w : Writing} → length dir ≡ 2580 → countable input ≡ true → judgedFrom 0 (namesOf input) ≡ j → w ≡ judgedOf rules j (namesOf input) dir bytes → w ≡ writeOf rules input dir bytes
   unfolding writeOf
   judged e f g h = took _ _ (eq-eqb _ _ e) (took _ _ f (rw g h))
 
-  pub refused-8 : (n : ℕ) → writing (Refused (At 8 n)) dir bytes ≡ judgedOf (Bad n) (namesOf input) dir bytes
+  pub refused-8 : (n : ℕ) → writing (Refused (At 8 n)) dir bytes ≡ judgedOf rules (Bad n) (namesOf input) dir bytes
   unfolding judgedOf
   refused-8 n = refl
 
-  pub accepted : {w : Writing} → w ≡ laidOf (namesOf input) dir bytes → w ≡ judgedOf Fine (namesOf input) dir bytes
+  pub accepted : {w : Writing} → w ≡ laidOf rules (namesOf input) dir bytes → w ≡ judgedOf rules Fine (namesOf input) dir bytes
   unfolding judgedOf
   accepted e = e

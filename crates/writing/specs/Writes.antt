@@ -6,6 +6,7 @@ use lib.Dec.{leb, eqb}
 use lib.ListN.{length}
 use Rattle.base.specs.Choice.{pick, both}
 use Rattle.block.specs.declared.Refusal.the-variants.{Plain, At}
+use Rattle.tokens.specs.Types.{Rules}
 use Rattle.laying.specs.Puts.{totalOf, directoryOf, bytesOf}
 use Rattle.inputs.specs.declared.Judged.{Judged}
 use Rattle.inputs.specs.declared.Judged.the-variants.{Fine, Bad}
@@ -28,20 +29,20 @@ unfoldable pub countable : List ℕ → Bool
 countable input = both (ended input) (leb (length (namesOf input)) 65536)
 
 -- names that are all good, if there is room for the bytes
-unfoldable pub laidOf : List (List ℕ) → List ℕ → List ℕ → Writing
-laidOf names dir bytes =
-    pick (leb (totalOf (putsOf names)) (length bytes))
-    (writing (Written (length names) (totalOf (putsOf names))) (directoryOf (putsOf names)) (bytesOf (putsOf names) bytes))
+unfoldable pub laidOf : Rules → List (List ℕ) → List ℕ → List ℕ → Writing
+laidOf rules names dir bytes =
+    pick (leb (totalOf (putsOf rules names)) (length bytes))
+    (writing (Written (length names) (totalOf (putsOf rules names))) (directoryOf (putsOf rules names)) (bytesOf (putsOf rules names) bytes))
     (writing (Refused (Plain 9)) dir bytes)
 
-unfoldable pub judgedOf : Judged → List (List ℕ) → List ℕ → List ℕ → Writing
-judgedOf Fine names dir bytes = laidOf names dir bytes
-judgedOf (Bad n) names dir bytes = writing (Refused (At 8 n)) dir bytes
+unfoldable pub judgedOf : Rules → Judged → List (List ℕ) → List ℕ → List ℕ → Writing
+judgedOf rules Fine names dir bytes = laidOf rules names dir bytes
+judgedOf rules (Bad n) names dir bytes = writing (Refused (At 8 n)) dir bytes
 
-unfoldable pub writeOf : List ℕ → List ℕ → List ℕ → Writing
-writeOf input dir bytes =
+unfoldable pub writeOf : Rules → List ℕ → List ℕ → List ℕ → Writing
+writeOf rules input dir bytes =
     pick (eqb (length dir) 2580)
     (pick (countable input)
-    (judgedOf (judgedFrom 0 (namesOf input)) (namesOf input) dir bytes)
+    (judgedOf rules (judgedFrom 0 (namesOf input)) (namesOf input) dir bytes)
     (writing (Refused (Plain 12)) dir bytes))
     (writing (Refused (Plain 1)) dir bytes)

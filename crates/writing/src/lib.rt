@@ -3,12 +3,14 @@
 ghost use mathlib.Core.Path.{_≡_};
 ghost use lib.ListN.{length};
 ghost use Rattle.classes.specs.Classes.{classTable};
+ghost use Rattle.tokens.specs.Types.{rulesOf};
 ghost use Rattle.inputs.specs.Inputs.{namesOf};
 ghost use Rattle.filling.specs.Ready.{Ready};
 ghost use Rattle.writing.specs.Writes.{writing, laidOf, writeOf};
 ghost use Rattle.base.specs.Lent.{lent, left};
 use block::Block;
 use block::Refusal;
+use block::Setting;
 use inputs::Judged;
 
 pub enum WriteAnswer {
@@ -18,6 +20,7 @@ pub enum WriteAnswer {
 
 // Refusal 9, or all of it.
 fn lay(
+    set: Setting,
     directory: &mut [u32],
     bytes: &mut [u8],
     table: &[u8; 256],
@@ -27,20 +30,20 @@ fn lay(
     requires { ⌜ now table ≡ classTable ⌝ }
     requires { ⌜ Ready (now input) (now directory) ⌝ }
     requires { ⌜ names ≡ length (namesOf (now input)) ⌝ }
-    ensures { λ r. ⌜ writing r (left directory) (left bytes) ≡ laidOf (namesOf (lent input)) (lent directory) (lent bytes) ⌝ }
+    ensures { λ r. ⌜ writing r (left directory) (left bytes) ≡ laidOf (rulesOf set) (namesOf (lent input)) (lent directory) (lent bytes) ⌝ }
 {
-    if !filling::fits(directory, bytes, table, input) {
+    if !filling::fits(set, directory, bytes, table, input) {
         return WriteAnswer::Refused(Refusal::Plain(9));
     }
-    let total = filling::fill(directory, bytes, table, input);
+    let total = filling::fill(set, directory, bytes, table, input);
     WriteAnswer::Written {
         names,
         bytes: total,
     }
 }
 
-pub fn write(input: &[u8], directory: &mut [u32], bytes: &mut [u8]) -> WriteAnswer
-    ensures { λ r. ⌜ writing r (left directory) (left bytes) ≡ writeOf (lent input) (lent directory) (lent bytes) ⌝ }
+pub fn write(set: Setting, input: &[u8], directory: &mut [u32], bytes: &mut [u8]) -> WriteAnswer
+    ensures { λ r. ⌜ writing r (left directory) (left bytes) ≡ writeOf (rulesOf set) (lent input) (lent directory) (lent bytes) ⌝ }
 {
     if directory.len() != Block::DIRECTORY {
         return WriteAnswer::Refused(Refusal::Plain(1));
@@ -55,6 +58,6 @@ pub fn write(input: &[u8], directory: &mut [u32], bytes: &mut [u8]) -> WriteAnsw
     let table = classes::table();
     match inputs::judge(&table, input) {
         Judged::Bad(n) => WriteAnswer::Refused(Refusal::At(8, n)),
-        Judged::Fine => lay(directory, bytes, &table, input, count as u32),
+        Judged::Fine => lay(set, directory, bytes, &table, input, count as u32),
     }
 }

@@ -6,7 +6,7 @@ use crate::calls::{Calls, Second};
 use crate::cases::script::Packed;
 use crate::claim::KeptText;
 #[cfg(feature = "linked")]
-use crate::compare::{compare, Case, Tally};
+use crate::compare::{walk, Case};
 use crate::directory::{Block, DIRECTORY, MOST_BYTES, MOST_ROWS, SPANS, STREAMS};
 use crate::kept::{Entry, Tables, FIVE};
 use crate::lent::Lent;
@@ -142,8 +142,8 @@ impl Memory {
             memory: self.clone(),
             calls: vec![call.clone()],
         };
-        let compared = compare(&case, &Second, &Linked, &mut Tally::new());
-        compared.unwrap_or_else(|found| panic!("{found}"));
+        let walked = walk(&case, [&Second, &Linked], |_, _, _| Ok(()));
+        walked.unwrap_or_else(|found| panic!("{found}"));
     }
 
     fn run_read(&mut self, calls: &dyn Calls, call: &Call) -> u64 {

@@ -1,7 +1,7 @@
 //! The bench cases of document 01, those marked P and the others.
 
 use second::cases::script::Script;
-use second::cases::{names_of, read_whole, refused, write_whole};
+use second::cases::{assert_given_back, names_of, read_whole, refused, write_whole};
 use second::digits::{fits, print_padded};
 use second::listing::listing;
 use second::refusal::{DONE, NO_NAME};
@@ -135,6 +135,7 @@ fn no_names() {
     assert_eq!(answer, (0, 0));
     assert_eq!(memory.total_numbers(), [0, 0]);
     assert!(memory.directory.get().iter().all(|number| *number == 0));
+    assert_eq!(assert_given_back(b"", &memory), 2);
     assert_eq!(read_whole(&Script::new().packed()).0, (DONE, 0));
 }
 

@@ -2,7 +2,7 @@
 //! writing rule makes of them, read back.
 
 use second::cases::script::Script;
-use second::cases::{read_whole, write_whole};
+use second::cases::{assert_given_back, read_whole, write_whole};
 use second::directory::{place, Stream};
 use second::listing::listing;
 use second::memory::{Call, Memory, Room};
@@ -113,6 +113,7 @@ fn both_documents_names_written_and_read_back() {
         let answer = memory.ask(&Call::ReadBlock { count });
         assert_eq!(answer, (DONE, count));
         assert_eq!(memory.kept_texts(), names);
+        assert_eq!(assert_given_back(&input(names), &memory), 2);
     }
 }
 
@@ -143,6 +144,7 @@ fn the_paper_s_example_in_all_tables() {
     let end = place(0, Stream::Diff);
     assert_eq!(memory.directory.get()[2 * end..2 * end + 2], [8, 20]);
     assert_eq!(memory.cursors.get()[end], 20);
+    assert_eq!(assert_given_back(&input(&names), &memory), 2);
 }
 
 /// Empty STRINGs keep rows at the running offset, the last one at the name's byte 10.

@@ -12,16 +12,20 @@ use second::kept::Tables;
 use second::memory::{Call, Memory};
 use second::name::head;
 use second::refusal::{pack, unpack, Reason, DONE};
+use second::round::WAYS;
 use second::token::Type;
 use std::collections::{BTreeMap, BTreeSet};
 
-/// Every answer that each call can give; from its own opening a whole read meets no 11 and no 13.
-const ANSWERS: [(&str, &[u32]); 5] = [
+/// Every answer that each call can give; from its own opening a whole read meets no 11 and no 13,
+/// and of what was written it is always done.
+const ANSWERS: [(&str, &[u32]); 7] = [
     ("open", &[0, 1, 12]),
     ("read", &[0, 1, 2, 3, 4, 5, 6, 7, 8, 9, 10, 13, DONE]),
     ("read_block", &[1, 2, 3, 4, 5, 6, 7, 8, 9, 10, 12, DONE]),
     ("claim", &[0, 11, 13]),
     ("write", &[0, 1, 8, 9, 12]),
+    ("read_block cut to the total", &[DONE]),
+    ("read_block with other bytes behind", &[DONE]),
 ];
 
 #[test]
@@ -188,7 +192,9 @@ fn met_by_five(spans: &mut Spans<'_>) -> Option<&'static str> {
 struct Slip(u32);
 
 /// How many slips there are below.
-const SLIPS: u32 = 14;
+const SLIPS: u32 = 19;
+/// The first of those that a round trip finds, even where both sides have them.
+const IN_ROUND_TRIPS: u32 = 14;
 /// The number of none of them.
 const NO_SLIP: u32 = SLIPS;
 
@@ -228,10 +234,20 @@ impl Calls for Slip {
         cursors: &mut [u32],
         mut tables: Tables<'_>,
     ) -> u64 {
+        if let Some(reason) = self.refused_for_the_end(block) {
+            return pack(Err(reason.into()));
+        }
         let answer = Second.read_block(block, count, cursors, tables.lend());
-        let refused = self.0 == 6 && unpack(answer).0 == 9;
-        if let Some(last) = tables.names.last_mut().filter(|_| refused) {
-            *last ^= 1;
+        let changed = match (self.0, unpack(answer).0) {
+            (6, 9) => tables.names.last_mut(),
+            (17, DONE) => tables.names.get_mut(1),
+            _ => None,
+        };
+        if let Some(number) = changed {
+            *number ^= 1;
+        }
+        if let (18, Some(byte)) = (self.0, tables.text.first_mut()) {
+            *byte ^= 1;
         }
         answer
     }
@@ -261,6 +277,10 @@ impl Calls for Slip {
         match self.0 {
             8 if code == 0 && (total as usize) < bytes.len() => bytes[total as usize] = 0,
             9 if code == 9 => totals[0] = 0,
+            14 if code == 0 && total > 0 => {
+                totals[1] -= 1;
+                return answer - (1 << 32);
+            }
             _ => {}
         }
         answer
@@ -268,6 +288,17 @@ impl Calls for Slip {
 }
 
 impl Slip {
+    /// The slips of wanting a byte behind the last span, and of minding those that are there.
+    fn refused_for_the_end(&self, block: Block<'_>) -> Option<Reason> {
+        let end = *block.directory.last()? as usize;
+        let behind = block.bytes.get(end..)?;
+        match self.0 {
+            15 if end > 0 && behind.is_empty() => Some(Reason::Directory),
+            16 if behind.iter().any(|byte| *byte != 0xEE) => Some(Reason::Unread),
+            _ => None,
+        }
+    }
+
     /// The slips of reading a later name whose distance is 0.
     fn read_at_distance_0(
         &self,
@@ -322,6 +353,21 @@ fn every_slip_is_found() {
     }
 }
 
+/// Both sides slip, so that no comparison of the two can tell.
+#[test]
+fn a_slip_of_both_is_found_by_a_round_trip() {
+    for number in IN_ROUND_TRIPS..SLIPS {
+        let way = if number == 16 {
+            "read_block with other bytes behind: neither gives back write "
+        } else {
+            "read_block cut to the total: neither gives back write "
+        };
+        let found = run(&Slip(number), &Slip(number), 1);
+        let words = found.expect_err(&format!("slip {number} passed"));
+        assert!(words.contains(way), "slip {number}: {words}");
+    }
+}
+
 #[test]
 fn a_difference_says_where() {
     let words = run(&Second, &Slip(3), 1).unwrap_err();
@@ -351,6 +397,8 @@ fn the_largest_blocks() {
         ("claim", 0, 6),
         ("claim", 11, 9),
         ("claim", 13, 3),
+        ("read_block cut to the total", DONE, 3),
+        ("read_block with other bytes behind", DONE, 3),
     ] {
         assert_eq!(
             tally.get(&(call, code)),
@@ -369,5 +417,9 @@ fn every_edge_of_some_small_blocks() {
     let met = |code| tally.contains_key(&("read_block", code));
     let codes = [1, 2, 3, 4, 5, 6, 8, 9, 10, DONE];
     assert!(codes.into_iter().all(met), "{tally:?}");
+    // Each of nine blocks is written into just its total, and into one byte more.
+    for way in &WAYS {
+        assert_eq!(tally.get(&(way.word, DONE)), Some(&18), "{tally:?}");
+    }
     assert!(tally.values().sum::<u64>() > 40_000, "{tally:?}");
 }

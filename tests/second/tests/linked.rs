@@ -5,6 +5,8 @@ use second::boundary::Linked;
 use second::calls::Second;
 use second::cases::{edges, large, run_part};
 use second::compare::{compare, Tally};
+use second::refusal::DONE;
+use second::round::WAYS;
 use std::thread;
 
 /// How many times a plain run's cases; AQSURVEL_CASES asks for more.
@@ -13,6 +15,13 @@ fn times() -> u64 {
     asked.map_or(1, |times| {
         times.parse().expect("AQSURVEL_CASES is a number")
     })
+}
+
+/// How often users' round trip was made, in the way that was made least.
+fn trips(tallies: &[Tally]) -> u64 {
+    let made = |tally: &Tally, word| tally.get(&(word, DONE)).copied().unwrap_or(0);
+    let made = WAYS.map(|way| tallies.iter().map(|tally| made(tally, way.word)).sum());
+    made.into_iter().min().unwrap_or(0)
 }
 
 /// A part for each processor.
@@ -27,8 +36,10 @@ fn all_families() {
     })
     .unwrap_or_else(|found| panic!("{found}"));
     let calls: u64 = tallies.iter().flat_map(Tally::values).sum();
-    println!("{} times, {calls} calls", times());
+    let trips = trips(&tallies);
+    println!("{} times, {calls} calls, {trips} round trips", times());
     assert!(calls > 300_000 * times());
+    assert!(trips > 3_000 * times());
 }
 
 #[test]
@@ -39,6 +50,7 @@ fn the_largest_blocks() {
     }
     assert_eq!(tally[&("write", 0)], 3);
     assert_eq!(tally[&("write", 12)], 3);
+    assert_eq!(trips(&[tally]), 3);
 }
 
 #[test]
@@ -48,4 +60,5 @@ fn every_edge_of_some_small_blocks() {
         compare(&case, &Second, &Linked, &mut tally).unwrap();
     }
     assert!(tally.values().sum::<u64>() > 40_000, "{tally:?}");
+    assert!(trips(&[tally]) > 0);
 }

@@ -4,7 +4,7 @@ use second::cases::blocks::planned;
 use second::cases::names::{ended, good};
 use second::cases::random::Random;
 use second::cases::script::Packed;
-use second::cases::{large, read_whole, write_whole};
+use second::cases::{assert_given_back, large, read_whole, write_whole};
 use second::directory::MOST_NAMES;
 use second::memory::{Call, Memory};
 use second::refusal::DONE;
@@ -146,6 +146,7 @@ fn has_overlap(block: &Packed) -> bool {
 #[test]
 fn written_names_read_back() {
     let mut rests = 0;
+    let mut given_back = 0;
     for seed in 0..3_000 {
         let names = good(&mut Random::new(seed), 12);
         let input = ended(&names);
@@ -167,8 +168,10 @@ fn written_names_read_back() {
         rests += (0..count)
             .filter(|number| memory.entry(*number).row_count == 127)
             .count();
+        given_back += assert_given_back(&input, &memory);
     }
     assert!(rests > 100, "only {rests} names of 127 tokens");
+    assert_eq!(given_back, 2 * 3_000);
 }
 
 /// What the header and the binding say of room for writing: six times the input suffices, and nothing less.
@@ -196,6 +199,7 @@ fn assert_laid_out(memory: &Memory) {
 #[test]
 fn the_largest_blocks() {
     let mut whole = 0;
+    let mut given_back = 0;
     for case in large::cases() {
         let mut memory = case.memory;
         let answers: Vec<(u32, u32)> = case.calls.iter().map(|call| memory.ask(call)).collect();
@@ -206,7 +210,8 @@ fn the_largest_blocks() {
             assert_eq!(memory.text.get(), input);
             assert_eq!(answers[4], (0, 1));
             whole += 1;
+            given_back += assert_given_back(input, &memory);
         }
     }
-    assert_eq!(whole, 3);
+    assert_eq!((whole, given_back), (3, 2 * 3));
 }

@@ -31,7 +31,7 @@ unfolding writtenNumber writtenTotals
 returns c =
     let w = c .before .before .before .before .before .before .before .before .before in
     let g = c .before .before .before .names .given .1 in
-    write-call _ _ _ _ (w .write .result) _ _ (w .write .ensures) (rw (c .pack .ensures, g)) (rw g)
+    write-call _ _ _ _ _ (w .write .result) _ _ (w .write .ensures) (rw (c .pack .ensures, g)) (rw g)
 
 same-length-3 : tie.Need-same-length-3
 same-length-3 c = search needs
@@ -44,7 +44,7 @@ unfolding writtenNumber writtenTotals
 returns-2 c =
     let w = c .before .before .before .before .before .before .before .before in
     let g = c .before .before .r .given .1 in
-    write-call _ _ _ _ (w .write .result) _ _ (w .write .ensures) (rw (c .refused .ensures, g)) (rw g)
+    write-call _ _ _ _ _ (w .write .result) _ _ (w .write .ensures) (rw (c .refused .ensures, g)) (rw g)
 
 pub write-spec : {M : Type 1} → statement M
 write-spec =

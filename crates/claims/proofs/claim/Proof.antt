@@ -34,7 +34,11 @@ unfolding room
 returns c = unsound _ _ _ _ _ (sym (c .before .text-counts .ensures) ∙ not-true (c .before .text-counts .result) (c .if1 .taken))
 
 returns-2 : tie.Need-returns-2
-returns-2 c = unread _ _ _ _ _ (counts-hold (c .before .before)) (omega arith)
+returns-2 c =
+    let at-start : tie.Start = search in
+    let a = at-start .args in
+    let v = unread (a .number) (now (a .claimed)) (a .state) (now (a .text)) (now (a .names)) (counts-hold (c .before .before)) (omega arith) in
+    rw (← v)
 
 entry-at-requires : tie.Need-entry-at-requires
 entry-at-requires c κs =
@@ -49,8 +53,12 @@ entry-text-requires c κs = search needs
 returns-3 : tie.Need-returns-3
 returns-3 c =
     let b : tie.Else2 = search in
-    outside _ _ _ _ _ (counts-hold (b .before .before)) (omega arith) (c .before .before .entry-at .ensures)
-    (sym (c .before .entry-text .ensures) ∙ not-true (c .before .entry-text .result) (c .if3 .taken))
+    let at-start : tie.Start = search in
+    let a = at-start .args in
+    let v =
+    outside (a .number) (now (a .claimed)) (a .state) (now (a .text)) (now (a .names)) (counts-hold (b .before .before)) (omega arith) (c .before .before .entry-at .ensures)
+    (sym (c .before .entry-text .ensures) ∙ not-true (c .before .entry-text .result) (c .if3 .taken)) in
+    rw (← v)
 
 cast-start : tie.Need-cast-start
 cast-start c = search needs

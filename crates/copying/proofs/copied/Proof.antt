@@ -79,7 +79,7 @@ returns c =
     let at-has-room : tie.After-has-room = search in
     let z : tie.Start = search in
     let a = z .args in
-    λ bytes dir. dup-kept bytes dir (now (a .cursors)) (now (a .text)) (now (a .entries)) (now (a .rows)) (a .state) (a .e) (a .distance .0) (z .pre .1 .0) (z .pre .0) (sym (at-has-room .has-room .ensures) ∙ at-then1 .if1 .taken) (c .before .before .enter .ensures .0) (at-move-head .move-head .ensures) (at-copy-within .copy-within .ensures) (at-put-byte .put-byte .ensures) (c .before .before .enter .ensures .1)
+    λ rules bytes dir. dup-kept rules bytes dir (now (a .cursors)) (now (a .text)) (now (a .entries)) (now (a .rows)) (a .state) (a .e) (a .distance .0) (z .pre .1 .0) (z .pre .0) (sym (at-has-room .has-room .ensures) ∙ at-then1 .if1 .taken) (c .before .before .enter .ensures .0) (at-move-head .move-head .ensures) (at-copy-within .copy-within .ensures) (at-put-byte .put-byte .ensures) (c .before .before .enter .ensures .1)
 
 same-length-4 : tie.Need-same-length-4
 same-length-4 c = search needs
@@ -91,7 +91,7 @@ returns-2 : tie.Need-returns-2
 returns-2 c =
     let z : tie.Start = search in
     let a = z .args in
-    λ bytes dir. dup-refused bytes dir (now (a .cursors)) (now (a .text)) (now (a .entries)) (now (a .rows)) (a .state) (a .e) (a .distance .0) (z .pre .1 .0) (z .pre .0) (sym (c .before .before .has-room .ensures) ∙ c .before .if1 .left) (c .refuse .ensures)
+    λ rules bytes dir. dup-refused rules bytes dir (now (a .cursors)) (now (a .text)) (now (a .entries)) (now (a .rows)) (a .state) (a .e) (a .distance .0) (z .pre .1 .0) (z .pre .0) (sym (c .before .before .has-room .ensures) ∙ c .before .if1 .left) (c .refuse .ensures)
 
 pub copied-spec : {M : Type 1} → statement M
 copied-spec =

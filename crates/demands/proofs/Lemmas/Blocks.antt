@@ -10,13 +10,15 @@ use lib.ListN.{length, set, replicate, length-append, length-set, length-replica
 use lib.Seq.{getD-set-same, getD-set-other, ext-getD}
 use Rattle.base.specs.Choice.{both}
 use Rattle.base.proofs.Choice.{both-true, by-test}
-use Rattle.block.specs.Block.{spanOf, startOf, endOf, cursorOf, starts, state}
+use Rattle.block.specs.declared.Opened.the-variants as opened
+use Rattle.block.specs.Block.{spanOf, startOf, endOf, cursorOf, starts, state, Opening, opening, openOf}
 use Rattle.block.proofs.Laws.{span-below, cursor-set-same, cursor-set-other, starts-length, starts-cursor, sound-of, opens-fresh}
+use Rattle.kept.specs.Tables.{Kept}
 use Rattle.sources.specs.Source.{source}
 use Rattle.entries.specs.Outcomes.{Outcome}
 use Rattle.inner.specs.Next.{nextOf}
-use Rattle.demands.specs.Runs.{Lent, lent, read, left, Fresh, reading, after, run}
-use Rattle.demands.specs.Cases.{Stream, bytesIn, dirFrom, inDirectory, Buffers, empty, openOver, Told, told, readIn}
+use Rattle.demands.specs.Runs.{Lent, lent, read, left, reading, after, run}
+use Rattle.demands.specs.Cases.{draftRules, Stream, bytesIn, dirFrom, inDirectory, Buffers, empty, Told, told, readFrom, openIn, readIn}
 use Rattle.demands.proofs.Lemmas.Ways.{ready-reads}
 use Rattle.demands.proofs.Lemmas.Keeping.{Sure, fresh-sure, after-sure}
 
@@ -117,48 +119,46 @@ module _ (xs : List Stream) (ok : inDirectory xs ≡ true) where
       ext-getD 0 (starts (dirFrom 0 xs)) (curFrom 0 xs) (starts-length (dirFrom 0 xs) ∙ sym (l .cursors))
       (λ j h. let k : j < 1290 = omega (arith, starts-length (dirFrom 0 xs)) in starts-cursor (dirFrom 0 xs) j k ∙ sym (l .start j k))
 
-  -- such a block opens
-  pub opens-over : (room : Buffers) (count : ℕ) → count ≤ 65536 → Fresh (bytesIn xs) (dirFrom 0 xs) count (openOver room count xs)
-  unfolding openOver
-  opens-over room count h =
+  -- such a block opens, whatever the cursors held
+  pub opens-over : (old : List ℕ) (count : ℕ) → length old ≡ 1290 → count ≤ 65536
+      → openOf (length (bytesIn xs)) (dirFrom 0 xs) count old ≡ opening (opened.Fresh (state count 0 0 0)) (starts (dirFrom 0 xs))
+  opens-over old count e h =
       let l : Laid 0 xs = laid xs 0 ok in
-      record {
-        old = curFrom 0 xs;
-        state = state count 0 0 0;
-        opens = sym (opens-fresh (length (bytesIn xs)) (dirFrom 0 xs) count (curFrom 0 xs)
-            (sound-of (length (bytesIn xs)) (dirFrom 0 xs) (curFrom 0 xs) (l .directory) (l .cursors) (l .ordered) (λ j k. omega (arith, l .within j k))) h);
-        begins = refl;
-      }
+      sym (opens-fresh (length (bytesIn xs)) (dirFrom 0 xs) count old
+      (sound-of (length (bytesIn xs)) (dirFrom 0 xs) old (l .directory) e (l .ordered) (λ j k. omega (arith, l .within j k))) h)
 
 -- over tables that are in order a read goes on to the name, and so do reads in a row
 unfoldable pub nexts : List ℕ → List ℕ → ℕ → Lent → Lent
 nexts bytes dir zero l = l
-nexts bytes dir (suc n) l = nexts bytes dir n (left (nextOf (source bytes dir (l .cur)) (l .kept)))
+nexts bytes dir (suc n) l = nexts bytes dir n (left (nextOf (source draftRules bytes dir (l .cur)) (l .kept)))
 
 module _ (bytes dir : List ℕ) where
-  read-next : (l : Lent) → Sure bytes dir l → read bytes dir l ≡ nextOf (source bytes dir (l .cur)) (l .kept)
+  read-next : (l : Lent) → Sure bytes dir l → read draftRules bytes dir l ≡ nextOf (source draftRules bytes dir (l .cur)) (l .kept)
   unfolding read
-  read-next l r = ready-reads (source bytes dir (l .cur)) (l .kept) (record { opened = r .opened; counts = r .counts })
+  read-next l r = ready-reads (source draftRules bytes dir (l .cur)) (l .kept) (record { opened = r .opened; counts = r .counts })
 
-  run-next : (n : ℕ) (l : Lent) → Sure bytes dir l → (run bytes dir l (replicate n reading) ≡ nexts bytes dir n l) × Sure bytes dir (run bytes dir l (replicate n reading))
+  run-next : (n : ℕ) (l : Lent) → Sure bytes dir l → (run draftRules bytes dir l (replicate n reading) ≡ nexts bytes dir n l) × Sure bytes dir (run draftRules bytes dir l (replicate n reading))
   unfolding run after nexts
   run-next zero l r = (refl, r)
   run-next (suc n) l r =
-      let h = run-next n (left (read bytes dir l)) (after-sure bytes dir l reading r) in
+      let h = run-next n (left (read draftRules bytes dir l)) (after-sure draftRules bytes dir l reading r) in
       (h .0 ∙ ap (λ (o : Outcome). nexts bytes dir n (left o)) (read-next l r), h .1)
 
 -- the same, with each cursor put at its start at once
 unfoldable pub quick : Buffers → ℕ → List Stream → Told
 quick b n xs =
-    let l = nexts (bytesIn xs) (dirFrom 0 xs) n (lent (curFrom 0 xs) (empty b (n + 1))) in
-    told (nextOf (source (bytesIn xs) (dirFrom 0 xs) (l .cur)) (l .kept))
+    let l = nexts (bytesIn xs) (dirFrom 0 xs) n (lent (curFrom 0 xs) (empty b (state (n + 1) 0 0 0))) in
+    told (nextOf (source draftRules (bytesIn xs) (dirFrom 0 xs) (l .cur)) (l .kept))
 
 pub over : (room : Buffers) (n : ℕ) (xs : List Stream) → n < 65536 → inDirectory xs ≡ true → readIn room n xs ≡ quick room n xs
-unfolding readIn quick openOver
+unfolding readIn openIn readFrom quick
 over room n xs h ok =
     let b : List ℕ = bytesIn xs in
     let d : List ℕ = dirFrom 0 xs in
-    let l : Lent = openOver room (n + 1) xs in
-    let r = run-next b d n l (fresh-sure b d (n + 1) l (opens-over xs ok room (n + 1) (omega arith))) in
-    let e : l ≡ lent (curFrom 0 xs) (l .kept) = ap (λ (c : List ℕ). lent c (l .kept)) (starts-laid xs ok) in
-    ap told (read-next b d (run b d l (replicate n reading)) (r .1) ∙ ap (λ (z : Lent). nextOf (source b d (z .cur)) (z .kept)) (r .0 ∙ ap (nexts b d n) e))
+    let m : Kept = empty room (state (n + 1) 0 0 0) in
+    let l : Lent = lent (starts d) m in
+    let o = opens-over xs ok (replicate 1290 0) (n + 1) (length-replicate {A = ℕ} 1290 0) (omega arith) in
+    let r = run-next b d n l (fresh-sure b d (n + 1) l (record { old = replicate 1290 0; state = state (n + 1) 0 0 0; opens = o; begins = refl })) in
+    ap (λ (z : Opening). readFrom room n xs (z .cursors) (z .answer)) o
+    ∙ ap told (read-next b d (run draftRules b d l (replicate n reading)) (r .1)
+    ∙ ap (λ (z : Lent). nextOf (source draftRules b d (z .cur)) (z .kept)) (r .0 ∙ ap (λ (c : List ℕ). nexts b d n (lent c m)) (starts-laid xs ok)))

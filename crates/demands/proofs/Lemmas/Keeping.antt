@@ -35,6 +35,7 @@ use Rattle.demands.proofs.Lemmas.Making.{Made, dup, diff, Room, made, r
 use Rattle.demands.proofs.Lemmas.Later.{NameSure, later-adds, home-later, rows-later, name-later}
 use Rattle.demands.proofs.Lemmas.Adding.{entry, text-kept, entry-kept, kept-adds, refers-made}
 use Rattle.demands.proofs.Lemmas.Ways.{read-case, ready-holds}
+use Rattle.tokens.specs.Types.{Rules}
 
 pub record Sure (bytes dir : List ℕ) (l : Lent) : Type 0 where
   pub opened : Open bytes dir (l .cur)
@@ -177,16 +178,16 @@ fresh-sure bytes dir count l f =
     }
 
 -- a read
-read-way : (bytes dir : List ℕ) (l : Lent) → Sure bytes dir l → (o : Outcome) → ReadCase (source bytes dir (l .cur)) (l .kept) o → reads.Holds bytes dir (l .kept) o
+read-way : (rules : Rules) (bytes dir : List ℕ) (l : Lent) → Sure bytes dir l → (o : Outcome) → ReadCase (source rules bytes dir (l .cur)) (l .kept) o → reads.Holds bytes dir (l .kept) o
     → Sure bytes dir (left o)
 unfolding left kept
-read-way bytes dir l r o (refuses q y) h = r
-read-way bytes dir l r o (ends a b c) h = r
-read-way bytes dir l r o (keeps x first rows d a b g f) h =
-    keeps-sure (source bytes dir (l .cur)) (l .kept) a x first rows d (made (source bytes dir (l .cur)) (l .kept) a x first rows d g) (room-each (l .kept) x f) h r
+read-way rules bytes dir l r o (refuses q y) h = r
+read-way rules bytes dir l r o (ends a b c) h = r
+read-way rules bytes dir l r o (keeps x first rows d a b g f) h =
+    keeps-sure (source rules bytes dir (l .cur)) (l .kept) a x first rows d (made (source rules bytes dir (l .cur)) (l .kept) a x first rows d g) (room-each (l .kept) x f) h r
 
-pub after-sure : (bytes dir : List ℕ) (l : Lent) (c : Call) → Sure bytes dir l → Sure bytes dir (after bytes dir l c)
+pub after-sure : (rules : Rules) (bytes dir : List ℕ) (l : Lent) (c : Call) → Sure bytes dir l → Sure bytes dir (after rules bytes dir l c)
 unfolding after read
-after-sure bytes dir l reading r =
-    read-way bytes dir l r (readOf (source bytes dir (l .cur)) (l .kept)) (read-case _ _) (ready-holds _ _ (record { opened = r .opened; counts = r .counts }))
-after-sure bytes dir l (claiming n b) r = r
+after-sure rules bytes dir l reading r =
+    read-way rules bytes dir l r (readOf (source rules bytes dir (l .cur)) (l .kept)) (read-case _ _) (ready-holds _ _ (record { opened = r .opened; counts = r .counts }))
+after-sure rules bytes dir l (claiming n b) r = r

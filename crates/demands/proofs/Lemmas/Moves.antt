@@ -16,8 +16,8 @@ use Rattle.block.specs.Streams.{dzlenStream, diffStream}
 use Rattle.tokens.specs.declared.TokenType.{TokenType}
 use Rattle.tokens.specs.declared.TokenType.the-variants as type
 use Rattle.tokens.specs.declared.Token.{Token}
-use Rattle.sources.specs.Source.{Source, Earlier, byteIn}
-use Rattle.names.specs.Names.{Draft, draft, typeIn, grown, ended}
+use Rattle.sources.specs.Source.{Source, Earlier}
+use Rattle.names.specs.Names.{Draft, draft, grown, ended, typeAt}
 use Rattle.moving.specs.Moves.{past, valuePast}
 use Rattle.moving.proofs.Moves.{past-later, value-later}
 use Rattle.names.proofs.Frames.{SameFrom}
@@ -92,15 +92,15 @@ module _ (s : Source) (p : ℕ) (l : p ≤ 128) (cur : List ℕ) (k : length cur
   type-moves : Moves cur (past cur (spanOf p 0) 1) (from (spanOf p 0) 1)
   type-moves = moves-past cur (spanOf p 0) 1 (omega (arith, span-below p 0 l (omega arith)))
 
-  token-moves : SameFrom p cur (s .cur) → (y : TokenType) (t : Token) (c : Cursor) → typeIn (byteIn s p 0) ≡ y → Value s p y t c
-      → Moves cur (valuePast (typeIn (byteIn s p 0)) p (c .0) (past cur (spanOf p 0) 1)) (positionTakes s p)
+  token-moves : SameFrom p cur (s .cur) → (y : TokenType) (t : Token) (c : Cursor) → typeAt s p ≡ y → Value s p y t c
+      → Moves cur (valuePast (typeAt s p) p (c .0) (past cur (spanOf p 0) 1)) (positionTakes s p)
   unfolding positionTakes past
   token-moves ahead y t c q v =
       subst (λ (z : TokenType). Moves cur (valuePast z p (c .0) (past cur (spanOf p 0) 1)) (λ j. from (spanOf p 0) 1 j + valueTakes s p z j)) (sym q)
       (moves-then type-moves (value-moves s p l (past cur (spanOf p 0) 1) (type-moves .lengths ∙ k)
       (λ i a b. cursor-set-other cur (spanOf p 0) _ (spanOf p i) (spans-apart p 0 i a) ∙ ahead (spanOf p i) (span-ahead p i)) y t c v))
 
-  end-moves : typeIn (byteIn s p 0) ≡ type.End → Moves cur (past cur (spanOf p 0) 1) (positionTakes s p)
+  end-moves : typeAt s p ≡ type.End → Moves cur (past cur (spanOf p 0) 1) (positionTakes s p)
   unfolding positionTakes valueTakes
   end-moves q =
       subst (λ (z : TokenType). Moves cur (past cur (spanOf p 0) 1) (λ j. from (spanOf p 0) 1 j + valueTakes s p z j)) (sym q)
@@ -124,7 +124,7 @@ module _ (s : Source) (e : Earlier) (used : ℕ) where
       let m : Moves (d .cur) (grown s e used p t (c .0) d .cur) (positionTakes s p) = token-moves s p (omega arith) (d .cur) k a y t c r v in
       let w : Walked s (p + 1) (grown s e used p t (c .0) d) x =
       walked (p + 1) (grown s e used p t (c .0) d) x rest (m .lengths ∙ k)
-      (λ j b. value-later (typeIn (byteIn s p 0)) (past (d .cur) (spanOf p 0) 1) p (c .0) j b ∙ past-later (d .cur) p 0 1 j (omega arith) b ∙ a j (omega arith)) in
+      (λ j b. value-later (typeAt s p) (past (d .cur) (spanOf p 0) 1) p (c .0) j b ∙ past-later (d .cur) p 0 1 j (omega arith) b ∙ a j (omega arith)) in
       record {
         positions = suc (w .positions);
         count = omega (arith, w .count);

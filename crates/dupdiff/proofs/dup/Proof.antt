@@ -49,7 +49,7 @@ returns c =
     let at-fits-back : tie.After-fits-back = search in
     let z = to-start at-fits-back in
     let a = z .args in
-    λ bytes dir. dup-fit bytes dir (now (a .cursors)) (now (a .text)) (now (a .entries)) (now (a .rows)) (a .state) (a .distance .0) (back-fits (a .state) (now (a .text)) (now (a .entries)) (now (a .rows)) _ (z .pre .0) (omega (arith, z .pre .1 .0)) (at-fits-back .fits-back .ensures) (at-then1 .if1 .taken)) (at-entry-at .entry-at .ensures) (at-copied .copied .ensures bytes dir) (omega arith)
+    λ rules bytes dir. dup-fit rules bytes dir (now (a .cursors)) (now (a .text)) (now (a .entries)) (now (a .rows)) (a .state) (a .distance .0) (back-fits (a .state) (now (a .text)) (now (a .entries)) (now (a .rows)) _ (z .pre .0) (omega (arith, z .pre .1 .0)) (at-fits-back .fits-back .ensures) (at-then1 .if1 .taken)) (at-entry-at .entry-at .ensures) (at-copied .copied .ensures rules bytes dir) (omega arith)
 
 same-length-4 : tie.Need-same-length-4
 same-length-4 c = search needs
@@ -58,7 +58,7 @@ returns-2 : tie.Need-returns-2
 returns-2 c =
     let z : tie.Start = search in
     let a = z .args in
-    λ bytes dir. dup-unfit bytes dir (now (a .cursors)) (now (a .text)) (now (a .entries)) (now (a .rows)) (a .state) (a .distance .0) (back-fits (a .state) (now (a .text)) (now (a .entries)) (now (a .rows)) _ (z .pre .0) (omega (arith, z .pre .1 .0)) (c .before .before .fits-back .ensures) (c .before .if1 .left)) (c .refuse .ensures) (omega arith)
+    λ rules bytes dir. dup-unfit rules bytes dir (now (a .cursors)) (now (a .text)) (now (a .entries)) (now (a .rows)) (a .state) (a .distance .0) (back-fits (a .state) (now (a .text)) (now (a .entries)) (now (a .rows)) _ (z .pre .0) (omega (arith, z .pre .1 .0)) (c .before .before .fits-back .ensures) (c .before .if1 .left)) (c .refuse .ensures) (omega arith)
 
 pub dup-spec : {M : Type 1} → statement M
 dup-spec =

@@ -27,7 +27,7 @@ returns c =
     let at-put-entry : tie.After-put-entry = search in
     let at-start : tie.Start = search in
     let a = at-start .args in
-    (entered (a .state) (a .bytes) (a .added) (omega arith) (omega arith) (omega arith) (omega arith), at-put-entry .put-entry .ensures)
+    (entered (a .state) (a .bytes) (a .added) (omega arith) (omega arith) (omega arith) (omega arith), rw (at-put-entry .put-entry .ensures))
 
 pub enter-spec : {M : Type 1} → statement M
 enter-spec =

@@ -1,4 +1,5 @@
 use denote.Ref.{now}
+use Rattle.tokens.specs.Types.{rulesOf}
 use borrow.Author.Needs.{needs}
 use Rattle.filling.proofs.Filled.{first-room, places-room, last-room, filled}
 use Rattle.filling.proofs.fill.Statement.{statement}
@@ -12,7 +13,7 @@ put-names-requires c κs =
     let at-clear : tie.After-clear = search in
     let s : tie.Start = search in
     let a = s .args in
-    (s .pre .0, (((s .pre .1 .0) .ends, (s .pre .1 .0) .few), first-room (now (a .input)) (now (a .directory)) (now (a .bytes)) (s .pre .1 .0) (s .pre .1 .1) (at-clear .clear .ensures)))
+    (s .pre .0, (((s .pre .1 .0) .ends, (s .pre .1 .0) .few), first-room (rulesOf (a .set)) (now (a .input)) (now (a .directory)) (now (a .bytes)) (s .pre .1 .0) (s .pre .1 .1) (at-clear .clear .ensures)))
 
 lay-out-requires : tie.Need-lay-out-requires
 lay-out-requires c κs =
@@ -20,7 +21,7 @@ lay-out-requires c κs =
     let at-clear : tie.After-clear = search in
     let s : tie.Start = search in
     let a = s .args in
-    places-room (now (a .input)) (now (a .directory)) (now (a .bytes)) (s .pre .1 .0) (s .pre .1 .1) (at-clear .clear .ensures) (at-put-names .put-names .ensures)
+    places-room (rulesOf (a .set)) (now (a .input)) (now (a .directory)) (now (a .bytes)) (s .pre .1 .0) (s .pre .1 .1) (at-clear .clear .ensures) (at-put-names .put-names .ensures)
 
 put-names-requires-2 : tie.Need-put-names-requires-2
 put-names-requires-2 c κs =
@@ -29,7 +30,7 @@ put-names-requires-2 c κs =
     let at-clear : tie.After-clear = search in
     let s : tie.Start = search in
     let a = s .args in
-    (s .pre .0, (((s .pre .1 .0) .ends, (s .pre .1 .0) .few), last-room (now (a .input)) (now (a .directory)) (now (a .bytes)) (s .pre .1 .0) (s .pre .1 .1) (at-clear .clear .ensures) (at-put-names .put-names .ensures) (at-lay-out .lay-out .ensures)))
+    (s .pre .0, (((s .pre .1 .0) .ends, (s .pre .1 .0) .few), last-room (rulesOf (a .set)) (now (a .input)) (now (a .directory)) (now (a .bytes)) (s .pre .1 .0) (s .pre .1 .1) (at-clear .clear .ensures) (at-put-names .put-names .ensures) (at-lay-out .lay-out .ensures)))
 
 same-length : tie.Need-same-length
 same-length c = search needs
@@ -45,7 +46,7 @@ returns c =
     let at-clear : tie.After-clear = search in
     let s : tie.Start = search in
     let a = s .args in
-    filled (now (a .input)) (now (a .directory)) (now (a .bytes)) (s .pre .1 .0) (s .pre .1 .1) (at-clear .clear .ensures) (at-put-names .put-names .ensures) (at-lay-out .lay-out .ensures) (at-put-names2 .put-names2 .ensures)
+    filled (rulesOf (a .set)) (now (a .input)) (now (a .directory)) (now (a .bytes)) (s .pre .1 .0) (s .pre .1 .1) (at-clear .clear .ensures) (at-put-names .put-names .ensures) (at-lay-out .lay-out .ensures) (at-put-names2 .put-names2 .ensures)
 
 pub fill-spec : {M : Type 1} → statement M
 fill-spec =

@@ -4,6 +4,7 @@ use native.Mathlib.Nat.{div-add-mod}
 use native.Mathlib.Omega.{arith}
 use lib.ListN.{length}
 use denote.Ref.{now}
+use Rattle.tokens.specs.Types.{rulesOf}
 use borrow.Author.Needs.{needs}
 use Rattle.filling.proofs.Filled.{ample, total-room, counted-out}
 use Rattle.filling.proofs.fits.Statement.{statement}
@@ -14,13 +15,13 @@ returns c =
     let s : tie.Start = search in
     let a = s .args in
     let h : 6 * length (now (a .input)) ≤ length (now (a .bytes)) = omega (arith, div-add-mod (length (now (a .bytes))) 6) in
-    (ample (now (a .input)) (now (a .directory)) (now (a .bytes)) (s .pre .1) h, (refl, refl))
+    (ample (rulesOf (a .set)) (now (a .input)) (now (a .directory)) (now (a .bytes)) (s .pre .1) h, (refl, refl))
 
 put-names-requires : tie.Need-put-names-requires
 put-names-requires c κs =
     let s : tie.Start = search in
     let a = s .args in
-    (s .pre .0, (((s .pre .1) .ends, (s .pre .1) .few), total-room (now (a .input)) (now (a .directory)) (now (a .bytes)) (s .pre .1)))
+    (s .pre .0, (((s .pre .1) .ends, (s .pre .1) .few), total-room (rulesOf (a .set)) (now (a .input)) (now (a .directory)) (now (a .bytes)) (s .pre .1)))
 
 cast-result : tie.Need-cast-result
 cast-result c = search needs
@@ -36,7 +37,7 @@ returns-2 c =
     let at-put-names : tie.After-put-names = search in
     let s : tie.Start = search in
     let a = s .args in
-    counted-out (now (a .input)) (now (a .directory)) (now (a .bytes)) (s .pre .1) (at-put-names .put-names .ensures) refl
+    counted-out (rulesOf (a .set)) (now (a .input)) (now (a .directory)) (now (a .bytes)) (s .pre .1) (at-put-names .put-names .ensures) refl
 
 pub fits-spec : {M : Type 1} → statement M
 fits-spec =

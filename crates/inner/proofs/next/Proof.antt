@@ -7,6 +7,7 @@ use mathlib.Core.Path.{sym, _∙_}
 use borrow.Author.Needs.{needs}
 use Rattle.inner.proofs.next.Statement.{statement}
 use Rattle.inner.proofs.next.Tie as tie
+use Rattle.tokens.specs.Types.{rulesOf}
 
 abbrev to-start : tie.Else1 → tie.Start
 to-start s = search
@@ -21,7 +22,7 @@ returns : tie.Need-returns
 returns c =
     let z : tie.Start = search in
     let a = z .args in
-    next-finished (now (a .bytes)) (now (a .dir)) (now (a .cursors)) (now (a .text)) (now (a .entries)) (now (a .rows)) (a .state) (c .before .before .if1 .taken) (c .finish .ensures)
+    next-finished (rulesOf (a .set)) (now (a .bytes)) (now (a .dir)) (now (a .cursors)) (now (a .text)) (now (a .entries)) (now (a .rows)) (a .state) (c .before .before .if1 .taken) (c .finish .ensures)
 
 head-requires : tie.Need-head-requires
 head-requires c κs = search needs
@@ -36,8 +37,8 @@ dup-requires c κs =
     let at-shared-slice-known2 : tie.After-shared-slice-known2 = search in
     let z : tie.Start = search in
     let a = z .args in
-    let t = dup-told (source (now (a .bytes)) (now (a .dir)) (now (a .cursors))) (a .state .names) _ (sym (at-head .head .ensures) ∙ at-d .d .given .1) in
-    (z .pre .1 .0, ((t .0, t .1 .near), ((z .pre .0 .table, head-passable _ _ _ _ _ _ (λ i. omega (arith, at-shared-slice-known2 .shared-slice-known2 .given i)) (t .1)), z .pre .1 .1)))
+    let t = dup-told (source (rulesOf (a .set)) (now (a .bytes)) (now (a .dir)) (now (a .cursors))) (a .state .names) _ (sym (at-head .head .ensures) ∙ at-d .d .given .1) in
+    (z .pre .1 .0, ((t .0, t .1 .near), ((z .pre .0 .table, head-passable _ _ _ _ _ _ _ (λ i. omega (arith, at-shared-slice-known2 .shared-slice-known2 .given i)) (t .1)), z .pre .1 .1)))
 
 enum-known-d-2 : tie.Need-enum-known-d-2
 enum-known-d-2 c = search needs
@@ -48,7 +49,7 @@ diff-requires c κs =
     let at-head : tie.After-head = search in
     let z : tie.Start = search in
     let a = z .args in
-    (z .pre .0, (z .pre .1 .0, (diff-told (source (now (a .bytes)) (now (a .dir)) (now (a .cursors))) (a .state .names) _ (sym (at-head .head .ensures) ∙ at-d2 .d2 .given .1), z .pre .1 .1)))
+    (z .pre .0, (z .pre .1 .0, (diff-told (source (rulesOf (a .set)) (now (a .bytes)) (now (a .dir)) (now (a .cursors))) (a .state .names) _ (sym (at-head .head .ensures) ∙ at-d2 .d2 .given .1), z .pre .1 .1)))
 
 enum-known-r : tie.Need-enum-known-r
 enum-known-r c = search needs
@@ -74,9 +75,9 @@ returns-2 c =
     let at-d : tie.After-d = search in
     let at-head : tie.After-head = search in
     let at-else1 : tie.Else1 = search in
-    let z : tie.Start = search in
+    let z = to-start at-else1 in
     let a = z .args in
-    next-dup (now (a .bytes)) (now (a .dir)) (now (a .cursors)) (now (a .text)) (now (a .entries)) (now (a .rows)) (a .state) (at-else1 .if1 .left) _ (at-head .head .ensures) (at-d .d .given .1) (at-dup .dup .ensures (now (a .bytes)) (now (a .dir)))
+    next-dup (rulesOf (a .set)) (now (a .bytes)) (now (a .dir)) (now (a .cursors)) (now (a .text)) (now (a .entries)) (now (a .rows)) (a .state) (at-else1 .if1 .left) _ (at-head .head .ensures) (at-d .d .given .1) (at-dup .dup .ensures (rulesOf (a .set)) (now (a .bytes)) (now (a .dir)))
 
 same-length-6 : tie.Need-same-length-6
 same-length-6 c = search needs
@@ -98,7 +99,7 @@ returns-3 c =
     let at-else1 : tie.Else1 = search in
     let z = to-start at-else1 in
     let a = z .args in
-    next-diff (now (a .bytes)) (now (a .dir)) (now (a .cursors)) (now (a .text)) (now (a .entries)) (now (a .rows)) (a .state) (at-else1 .if1 .left) _ (at-head .head .ensures) (at-d2 .d2 .given .1) (at-diff .diff .ensures)
+    next-diff (rulesOf (a .set)) (now (a .bytes)) (now (a .dir)) (now (a .cursors)) (now (a .text)) (now (a .entries)) (now (a .rows)) (a .state) (at-else1 .if1 .left) _ (at-head .head .ensures) (at-d2 .d2 .given .1) (at-diff .diff .ensures)
 
 same-length-10 : tie.Need-same-length-10
 same-length-10 c = search needs
@@ -109,7 +110,7 @@ returns-4 c =
     let at-else1 : tie.Else1 = search in
     let z : tie.Start = search in
     let a = z .args in
-    next-refused (now (a .bytes)) (now (a .dir)) (now (a .cursors)) (now (a .text)) (now (a .entries)) (now (a .rows)) (a .state) (at-else1 .if1 .left) _ (at-head .head .ensures) (c .before .before .r .given .1) (c .refuse .ensures)
+    next-refused (rulesOf (a .set)) (now (a .bytes)) (now (a .dir)) (now (a .cursors)) (now (a .text)) (now (a .entries)) (now (a .rows)) (a .state) (at-else1 .if1 .left) _ (at-head .head .ensures) (c .before .before .r .given .1) (c .refuse .ensures)
 
 pub next-spec : {M : Type 1} → statement M
 next-spec =

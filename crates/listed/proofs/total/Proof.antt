@@ -1,3 +1,4 @@
+use Rattle.tokens.specs.Types.{draftPlain, rulesOf}
 use Rattle.filling.proofs.Filled.{total-room, total-is}
 use Rattle.listed.proofs.Answers.{ready}
 use mathlib.Core.Path.{refl}
@@ -16,13 +17,13 @@ put-names-requires : tie.Need-put-names-requires
 put-names-requires c κs =
     let s : tie.Start = search in
     let a = s .args in
-    (s .pre .0, ((s .pre .1 .ends, s .pre .1 .few), total-room (now (a .input)) _ _ (ready (now (a .input)) _ (s .pre .1) refl)))
+    (s .pre .0, ((s .pre .1 .ends, s .pre .1 .few), total-room (rulesOf draftPlain) (now (a .input)) _ _ (ready (now (a .input)) _ (s .pre .1) refl)))
 
 returns : tie.Need-returns
 returns c =
     let s : tie.Start = search in
     let a = s .args in
-    total-is (now (a .input)) _ _ (ready (now (a .input)) _ (s .pre .1) refl) (c .before .before .put-names .ensures)
+    total-is (rulesOf draftPlain) (now (a .input)) _ _ (ready (now (a .input)) _ (s .pre .1) refl) (c .before .before .put-names .ensures)
 
 pub total-spec : {M : Type 1} → statement M
 total-spec =

@@ -5,7 +5,7 @@ use native.Mathlib.Omega.{arith}
 use denote.Ref.{now}
 use borrow.Author.Needs.{needs}
 use Rattle.block.specs.Streams.{diffStream}
-use Rattle.tokens.specs.Types.{diffNumber}
+use Rattle.tokens.specs.Types.{numbersOf, rulesOf}
 use Rattle.choices.specs.Choices.{choicesOf}
 use Rattle.laying.specs.Puts.{Put}
 use Rattle.laying.specs.Passes.{world, runOf, Roomy}
@@ -21,14 +21,18 @@ reference-of-requires c κs = search needs
 enum-known-d : tie.Need-enum-known-d
 enum-known-d c = search needs
 
+dup-number-requires : tie.Need-dup-number-requires
+dup-number-requires c κs = search needs
+
 put-head-requires : tie.Need-put-head-requires
 put-head-requires c κs =
+    let at-number : tie.After-dup-number = search in
     let at-d : tie.After-d = search in
     let at-reference-of : tie.After-reference-of = search in
     let s : tie.Start = search in
     let a = s .args in
     let e = sym (at-reference-of .reference-of .ensures) ∙ at-d .d .given .1 in
-    (omega arith, subst (λ (l : List Put). Roomy (a .pass) l (world (a .total) (now (a .directory)) (now (a .bytes)))) (dup-puts (a .n) (now (a .before)) (now (a .name)) _ e) (s .pre .1))
+    (omega arith, rw (at-number .dup-number .ensures) (subst (λ (l : List Put). Roomy (a .pass) l (world (a .total) (now (a .directory)) (now (a .bytes)))) (dup-puts (rulesOf (a .set)) (a .n) (now (a .before)) (now (a .name)) _ e) (s .pre .1)))
 
 enum-known-d-2 : tie.Need-enum-known-d-2
 enum-known-d-2 c = search needs
@@ -45,8 +49,8 @@ put-diff-requires c κs =
     let e = sym (at-reference-of .reference-of .ensures) ∙ at-d2 .d2 .given .1 in
     let d = at-d2 .d2 .given .0 .0 .0 in (
       s .pre .0,
-      subst (λ (r : List ℕ). Roomy (a .pass) (headPuts diffNumber diffStream d ++ tokenPuts (now (a .name)) 1 (choicesOf r (now (a .name)))) (world (a .total) (now (a .directory)) (now (a .bytes)))) (sym (c .leans-on .ensures))
-          (subst (λ (l : List Put). Roomy (a .pass) l (world (a .total) (now (a .directory)) (now (a .bytes)))) (diff-puts (a .n) (now (a .before)) (now (a .name)) _ e) (s .pre .1)),
+      subst (λ (r : List ℕ). Roomy (a .pass) (headPuts (numbersOf (a .set .kind) .diff) diffStream d ++ tokenPuts (rulesOf (a .set)) (now (a .name)) 1 (choicesOf r (now (a .name)))) (world (a .total) (now (a .directory)) (now (a .bytes)))) (sym (c .leans-on .ensures))
+          (subst (λ (l : List Put). Roomy (a .pass) l (world (a .total) (now (a .directory)) (now (a .bytes)))) (diff-puts (rulesOf (a .set)) (a .n) (now (a .before)) (now (a .name)) _ e) (s .pre .1)),
     )
 
 same-length : tie.Need-same-length
@@ -58,12 +62,13 @@ same-length-2 c = search needs
 returns : tie.Need-returns
 returns c =
     let at-put-head : tie.After-put-head = search in
+    let at-number : tie.After-dup-number = search in
     let at-d : tie.After-d = search in
     let at-reference-of : tie.After-reference-of = search in
     let s : tie.Start = search in
     let a = s .args in
     let e = sym (at-reference-of .reference-of .ensures) ∙ at-d .d .given .1 in
-    at-put-head .put-head .ensures ∙ ap (λ (l : List Put). runOf (a .pass) l (world (a .total) (now (a .directory)) (now (a .bytes)))) (sym (dup-puts (a .n) (now (a .before)) (now (a .name)) _ e))
+    rw (at-number .dup-number .ensures) at (at-put-head .put-head .ensures) ∙ ap (λ (l : List Put). runOf (a .pass) l (world (a .total) (now (a .directory)) (now (a .bytes)))) (sym (dup-puts (rulesOf (a .set)) (a .n) (now (a .before)) (now (a .name)) _ e))
 
 same-length-3 : tie.Need-same-length-3
 same-length-3 c = search needs
@@ -81,8 +86,8 @@ returns-2 c =
     let e = sym (at-reference-of .reference-of .ensures) ∙ at-d2 .d2 .given .1 in
     let d = at-d2 .d2 .given .0 .0 .0 in
     at-put-diff .put-diff .ensures
-    ∙ ap (λ (r : List ℕ). runOf (a .pass) (headPuts diffNumber diffStream d ++ tokenPuts (now (a .name)) 1 (choicesOf r (now (a .name)))) (world (a .total) (now (a .directory)) (now (a .bytes)))) (at-put-diff .before .leans-on .ensures)
-    ∙ ap (λ (l : List Put). runOf (a .pass) l (world (a .total) (now (a .directory)) (now (a .bytes)))) (sym (diff-puts (a .n) (now (a .before)) (now (a .name)) _ e))
+    ∙ ap (λ (r : List ℕ). runOf (a .pass) (headPuts (numbersOf (a .set .kind) .diff) diffStream d ++ tokenPuts (rulesOf (a .set)) (now (a .name)) 1 (choicesOf r (now (a .name)))) (world (a .total) (now (a .directory)) (now (a .bytes)))) (at-put-diff .before .leans-on .ensures)
+    ∙ ap (λ (l : List Put). runOf (a .pass) l (world (a .total) (now (a .directory)) (now (a .bytes)))) (sym (diff-puts (rulesOf (a .set)) (a .n) (now (a .before)) (now (a .name)) _ e))
 
 pub put-name-spec : {M : Type 1} → statement M
 put-name-spec =
@@ -90,6 +95,7 @@ put-name-spec =
     (tie.spec
     reference-of-requires
     enum-known-d
+    dup-number-requires
     put-head-requires
     enum-known-d-2
     leans-on-requires

@@ -5,6 +5,7 @@ use native.Mathlib.Omega.{arith}
 use lib.ListN.{length}
 use denote.Ref.{now}
 use Rattle.base.specs.Memory.{part}
+use Rattle.tokens.specs.Types.{rulesOf}
 use Rattle.laying.specs.Passes.{world}
 use Rattle.nameputs.proofs.Walks.{Naming, names-start, names-room, names-more, names-end}
 use Rattle.inputs.proofs.Standing.{names-count}
@@ -12,10 +13,10 @@ use Rattle.nameputs.proofs.put_names.Statement.{statement}
 use Rattle.nameputs.proofs.put_names.Tie as tie
 
 abbrev Inv-loop : tie.InvT-loop
-Inv-loop pass directory₀ bytes₀ table input total₀ n₀ from₀ to₀ start₀ directory bytes total n from to start = (length directory ≡ length directory₀) × ((length bytes ≡ length bytes₀) × Naming pass input (world 0 directory₀ bytes₀) (world total directory bytes) n from to start)
+Inv-loop set pass directory₀ bytes₀ table input total₀ n₀ from₀ to₀ start₀ directory bytes total n from to start = (length directory ≡ length directory₀) × ((length bytes ≡ length bytes₀) × Naming (rulesOf set) pass input (world 0 directory₀ bytes₀) (world total directory bytes) n from to start)
 
 abbrev μ-loop : tie.MeasureT-loop
-μ-loop pass directory₀ bytes₀ table input total₀ n₀ from₀ to₀ start₀ directory bytes total n from to start = length input - start
+μ-loop set pass directory₀ bytes₀ table input total₀ n₀ from₀ to₀ start₀ directory bytes total n from to start = length input - start
 
 loop-holds : tie.Need-loop-holds Inv-loop μ-loop
 loop-holds c =
@@ -108,9 +109,9 @@ loop-again c =
     let l = at-loop .loop in
     let a = s .args in
     let k = at-put-name .put-name .kept in (
-      k .1 .1 .0 ∙ l .inv .0,
+      k .1 .1 .1 .0 ∙ l .inv .0,
       (
-        k .1 .1 .1 .0 ∙ l .inv .1 .0,
+        k .1 .1 .1 .1 .0 ∙ l .inv .1 .0,
         names-more (a .pass) (now (a .input)) (world 0 (now (a .directory)) (now (a .bytes))) (world (l .total) (l .directory) (l .bytes)) (l .n) (l .from) (l .to) (l .start) (l .inv .1 .1) _ (at-name-end .name-end .ensures) (at-put-name .put-name .ensures),
       ),
     )

@@ -1,4 +1,5 @@
 use mathlib.Core.Path.{sym, ap, _∙_}
+use native.Mathlib.Omega.{arith}
 use denote.Ref.{now}
 use borrow.Author.Tests.{eq-eqb, ne-eqb}
 use borrow.Author.Needs.{needs}
@@ -21,7 +22,7 @@ unfolding pieceAt
 returns c =
     let s : tie.Start = search in
     let a = s .args in
-    let e = cut-end (now (a .name)) (a .p .0) (a .at) (s .pre .1 .1) ∙ cut-last (now (a .name)) (a .at) (s .pre .1 .0) (a .p .0) (c .before .if1 .taken) in
+    let e = cut-end (now (a .name)) (a .p .0) (a .at) (s .pre .1 .1) ∙ cut-last (now (a .name)) (a .at) (s .pre .1 .0) (a .p .0) (omega (arith, c .before .if1 .taken)) in
     took _ _ (eq-eqb _ _ (c .before .if1 .taken)) (c .text-piece .ensures ∙ ap (textPiece (now (a .name)) (a .at)) e)
 
 shared-slice-read-run-class : tie.Need-shared-slice-read-run-class

@@ -30,9 +30,12 @@ same-length-4 c = search needs
 
 returns : tie.Need-returns
 returns c =
-    let r = c .before .before .before .before .before .before .before .before .before .before .before in
-    read-call _ _ _ _ _ (r .read .result .state) _ (r .read .ensures) (c .answered .ensures) (c .before .state-out .ensures)
-    ∙ read-state _ _ _ _ _ _ _ (r .before .state-in .ensures)
+    let at-read : tie.After-read = search in
+    let at-state-in : tie.After-state-in = search in
+    let v =
+    read-call _ _ _ _ _ (at-read .read .result .state) _ (at-read .read .ensures) (c .answered .ensures) (c .before .state-out .ensures)
+    ∙ read-state _ _ _ _ _ _ _ _ (at-state-in .state-in .ensures) in
+    search needs
 
 pub read-spec : {M : Type 1} → statement M
 read-spec =

@@ -30,9 +30,12 @@ same-length-4 c = search needs
 
 returns : tie.Need-returns
 returns c =
-    let r = c .before .before .before .before .before .before .before .before .before .before .before in
-    read-call _ _ _ _ _ (r .read-block .result .state) _ (r .read-block .ensures) (c .answered .ensures) (c .before .state-out .ensures)
-    ∙ block-state _ _ _ _ _ _ _ _ (r .before .state-in .ensures)
+    let at-read-block : tie.After-read-block = search in
+    let at-state-in : tie.After-state-in = search in
+    let v =
+    read-call _ _ _ _ _ (at-read-block .read-block .result .state) _ (at-read-block .read-block .ensures) (c .answered .ensures) (c .before .state-out .ensures)
+    ∙ block-state _ _ _ _ _ _ _ _ _ (at-state-in .state-in .ensures) in
+    rw v
 
 pub read-block-spec : {M : Type 1} → statement M
 read-block-spec =

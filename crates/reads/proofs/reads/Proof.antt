@@ -1,5 +1,6 @@
 use Rattle.reads.proofs.Loops.{Reads, reads-less, reads-on, reads-out}
 use Rattle.base.specs.Choice.{pick}
+use Rattle.tokens.specs.Types.{rulesOf}
 use Rattle.sources.specs.Source.{source}
 use Rattle.inner.specs.Next.{nextOf}
 use Rattle.reads.specs.Reads.{fresh, readsFrom}
@@ -12,14 +13,14 @@ use Rattle.reads.proofs.reads.Statement.{statement}
 use Rattle.reads.proofs.reads.Tie as tie
 
 abbrev Inv-loop : tie.InvT-loop
-Inv-loop whole bytes dir cursors₀ text₀ entries₀ rows₀ so-far₀ cursors text entries rows so-far =
-    Reads bytes dir whole
-    (pick whole (readsFrom bytes dir (so-far₀ .count - so-far₀ .names + 1) (fresh cursors₀ (keeping so-far₀ text₀ entries₀ rows₀))) (nextOf (source bytes dir cursors₀) (keeping so-far₀ text₀ entries₀ rows₀)))
+Inv-loop set whole bytes dir cursors₀ text₀ entries₀ rows₀ so-far₀ cursors text entries rows so-far =
+    Reads (rulesOf set) bytes dir whole
+    (pick whole (readsFrom (rulesOf set) bytes dir (so-far₀ .count - so-far₀ .names + 1) (fresh cursors₀ (keeping so-far₀ text₀ entries₀ rows₀))) (nextOf (source (rulesOf set) bytes dir cursors₀) (keeping so-far₀ text₀ entries₀ rows₀)))
     cursors (keeping so-far text entries rows)
     × ((length text ≡ length text₀) × ((length entries ≡ length entries₀) × (length rows ≡ length rows₀)))
 
 abbrev μ-loop : tie.MeasureT-loop
-μ-loop whole bytes dir cursors₀ text₀ entries₀ rows₀ so-far₀ cursors text entries rows so-far = so-far .count - so-far .names
+μ-loop set whole bytes dir cursors₀ text₀ entries₀ rows₀ so-far₀ cursors text entries rows so-far = so-far .count - so-far .names
 
 loop-holds : tie.Need-loop-holds Inv-loop μ-loop
 loop-holds c =
@@ -38,14 +39,14 @@ loop-less : tie.Need-loop-less Inv-loop μ-loop
 loop-less c =
     let at-next : tie.After-next Inv-loop μ-loop = search in
     let h : tie.At-loop Inv-loop μ-loop = search in
-    reads-less _ _ _ _ _ _ _ _ _ (h .loop .inv .0) _ (at-next .next .ensures) (sym (c .before .before .goes-on .ensures) ∙ c .before .if1 .taken)
+    reads-less _ _ _ _ _ _ _ _ _ _ (h .loop .inv .0) _ (at-next .next .ensures) (sym (c .before .before .goes-on .ensures) ∙ c .before .if1 .taken)
 
 loop-again : tie.Need-loop-again Inv-loop μ-loop
 loop-again c =
     let at-next : tie.After-next Inv-loop μ-loop = search in
     let h : tie.At-loop Inv-loop μ-loop = search in (
-      reads-on _ _ _ _ _ _ _ _ _ (h .loop .inv .0) _ (at-next .next .ensures) (sym (c .before .before .goes-on .ensures) ∙ c .before .if1 .taken),
-      (at-next .next .kept .1 .1 .1 .1 .0 ∙ h .loop .inv .1 .0, (at-next .next .kept .1 .1 .1 .1 .1 .0 ∙ h .loop .inv .1 .1 .0, at-next .next .kept .1 .1 .1 .1 .1 .1 .0 ∙ h .loop .inv .1 .1 .1)),
+      reads-on _ _ _ _ _ _ _ _ _ _ (h .loop .inv .0) _ (at-next .next .ensures) (sym (c .before .before .goes-on .ensures) ∙ c .before .if1 .taken),
+      (at-next .next .kept .1 .1 .1 .1 .1 .0 ∙ h .loop .inv .1 .0, (at-next .next .kept .1 .1 .1 .1 .1 .1 .0 ∙ h .loop .inv .1 .1 .0, at-next .next .kept .1 .1 .1 .1 .1 .1 .1 .0 ∙ h .loop .inv .1 .1 .1)),
     )
 
 same-length : tie.Need-same-length Inv-loop μ-loop
@@ -53,31 +54,31 @@ same-length c =
     let at-next : tie.After-next Inv-loop μ-loop = search in
     let h : tie.At-loop Inv-loop μ-loop = search in
     let at-start : tie.Start Inv-loop μ-loop = search in
-    at-next .next .kept .1 .1 .1 .0 ∙ h .loop .inv .0 .opened .table ∙ sym (at-start .pre .0 .table)
+    at-next .next .kept .1 .1 .1 .1 .0 ∙ h .loop .inv .0 .opened .table ∙ sym (at-start .pre .0 .table)
 
 same-length-2 : tie.Need-same-length-2 Inv-loop μ-loop
 same-length-2 c =
     let at-next : tie.After-next Inv-loop μ-loop = search in
     let h : tie.At-loop Inv-loop μ-loop = search in
-    at-next .next .kept .1 .1 .1 .1 .0 ∙ h .loop .inv .1 .0
+    at-next .next .kept .1 .1 .1 .1 .1 .0 ∙ h .loop .inv .1 .0
 
 same-length-3 : tie.Need-same-length-3 Inv-loop μ-loop
 same-length-3 c =
     let at-next : tie.After-next Inv-loop μ-loop = search in
     let h : tie.At-loop Inv-loop μ-loop = search in
-    at-next .next .kept .1 .1 .1 .1 .1 .0 ∙ h .loop .inv .1 .1 .0
+    at-next .next .kept .1 .1 .1 .1 .1 .1 .0 ∙ h .loop .inv .1 .1 .0
 
 same-length-4 : tie.Need-same-length-4 Inv-loop μ-loop
 same-length-4 c =
     let at-next : tie.After-next Inv-loop μ-loop = search in
     let h : tie.At-loop Inv-loop μ-loop = search in
-    at-next .next .kept .1 .1 .1 .1 .1 .1 .0 ∙ h .loop .inv .1 .1 .1
+    at-next .next .kept .1 .1 .1 .1 .1 .1 .1 .0 ∙ h .loop .inv .1 .1 .1
 
 returns : tie.Need-returns Inv-loop μ-loop
 returns c =
     let at-next : tie.After-next Inv-loop μ-loop = search in
     let h : tie.At-loop Inv-loop μ-loop = search in
-    reads-out _ _ _ _ _ _ _ _ _ (h .loop .inv .0) _ (at-next .next .ensures) (sym (c .before .goes-on .ensures) ∙ c .if1 .left)
+    reads-out _ _ _ _ _ _ _ _ _ _ (h .loop .inv .0) _ (at-next .next .ensures) (sym (c .before .goes-on .ensures) ∙ c .if1 .left)
 
 pub reads-spec : {M : Type 1} → statement M
 reads-spec =

@@ -1,6 +1,8 @@
-use mathlib.Core.Path.{refl, sym, _∙_}
+use mathlib.Core.Path.{_≡_, refl, sym, _∙_}
+use denote.Ref.{now}
 use borrow.Author.Needs.{needs}
 use Rattle.base.proofs.Choice.{took, left}
+use Rattle.references.specs.declared.Reference.the-variants.{Diff}
 use Rattle.references.specs.References.{referenceOf}
 use Rattle.references.proofs.reference_of.Statement.{statement}
 use Rattle.references.proofs.reference_of.Tie as tie
@@ -10,7 +12,11 @@ is-anew-requires c κs = search needs
 
 returns : tie.Need-returns
 unfolding referenceOf
-returns c = took _ _ (sym (c .before .is-anew .ensures) ∙ c .if1 .taken) refl
+returns c =
+    let s : tie.Start = search in
+    let a = s .args in
+    let v : Diff (record { 0 = 0 }) ≡ referenceOf (a .n) (now (a .before)) (now (a .name)) = took _ _ (sym (c .before .is-anew .ensures) ∙ c .if1 .taken) refl in
+    rw (← v)
 
 same-requires : tie.Need-same-requires
 same-requires c κs = search needs

@@ -8,13 +8,14 @@ use Rattle.names.specs.Keeps.{Memory, memory}
 use Rattle.running.proofs.Runs.{run-few, run-spelt, run-moves, length-asks, fewer-spelt, fewer-rows, ran-none, ran-long, ran-on, puts-none, puts-long, puts-not, puts-run}
 use Rattle.running.proofs.run.Statement.{statement}
 use Rattle.running.proofs.run.Tie as tie
+use Rattle.tokens.specs.Types.{rulesOf}
 
 abbrev to-start : tie.After-run-end → tie.Start
 to-start s = search
 
 -- what the function looks at
 abbrev src : tie.Start → Source
-src p = let a = p .args in source (now (a .bytes)) (now (a .dir)) (now (a .cursors))
+src p = let a = p .args in source (rulesOf (a .set)) (now (a .bytes)) (now (a .dir)) (now (a .cursors))
 
 abbrev back : tie.Start → Earlier
 back p = let a = p .args in earlier (now (a .text)) (now (a .rows)) (a .first) (a .count)
@@ -85,7 +86,9 @@ returns-2 c =
     )
 
 add-repeat : tie.Need-add-repeat
-add-repeat c = search needs
+add-repeat c =
+    let p : tie.Start = search in
+    record { fits = omega (arith, p .pre .1 .1 .1 .0, p .pre .1 .1 .1 .1 .0) }
 
 repeat-requires : tie.Need-repeat-requires
 repeat-requires c κs =
@@ -118,8 +121,11 @@ repeat-requires c κs =
       ),
     )
 
-add-t34 : tie.Need-add-t34
-add-t34 c = search needs
+add-t35 : tie.Need-add-t35
+add-t35 c =
+    let at-else2 : tie.Else2 = search in
+    let p : tie.Start = search in
+    record { fits = omega (arith, at-else2 .if2 .left, p .pre .1 .1 .1 .0) }
 
 same-length-4 : tie.Need-same-length-4
 same-length-4 c = search needs
@@ -145,8 +151,8 @@ returns-3 c =
       puts-run (back p) (a .used) (a .row) (a .p .0) (a .len) (mem p) (a .keeping) (q .result .0) (w .result) (at-then3 .if3 .taken) some (at-repeat .repeat .ensures),
     )
 
-add-t25 : tie.Need-add-t25
-add-t25 c = search needs
+add-t26 : tie.Need-add-t26
+add-t26 c = search needs
 
 same-length-7 : tie.Need-same-length-7
 same-length-7 c = search needs
@@ -185,12 +191,12 @@ run-spec =
     returns-2
     add-repeat
     repeat-requires
-    add-t34
+    add-t35
     same-length-4
     same-length-5
     same-length-6
     returns-3
-    add-t25
+    add-t26
     same-length-7
     same-length-8
     returns-4)

@@ -4,24 +4,25 @@ use borrow.Author.Tests.{not-true, not-false}
 use Prim.Native.Nat.{_+_, _-_, _≤_}
 use mathlib.Core.Path.{_≡_, refl, sym, ap, _∙_}
 use denote.Ref.{now}
-use Rattle.sources.specs.Source.{Source, source, byteIn}
-use Rattle.names.specs.Names.{typeIn}
+use Rattle.sources.specs.Source.{Source, source}
+use Rattle.names.specs.Names.{typeIn, typeAt}
 use Rattle.runs.specs.Runs.{isMatch, runEnd}
 use Rattle.runs.proofs.Matches.{run-over, run-stops, run-more}
 use Rattle.runs.proofs.run_end.Statement.{statement}
 use Rattle.runs.proofs.run_end.Tie as tie
+use Rattle.tokens.specs.Types.{rulesOf}
 
 abbrev Inv-loop : tie.InvT-loop
-Inv-loop bytes dir cursors stop q₀ q = (q₀ ≤ q) × (runEnd (source bytes dir cursors) q (stop - q) ≡ runEnd (source bytes dir cursors) q₀ (stop - q₀))
+Inv-loop set bytes dir cursors stop q₀ q = (q₀ ≤ q) × (runEnd (source (rulesOf set) bytes dir cursors) q (stop - q) ≡ runEnd (source (rulesOf set) bytes dir cursors) q₀ (stop - q₀))
 
 abbrev μ-loop : tie.MeasureT-loop
-μ-loop bytes dir cursors stop q₀ q = stop - q
+μ-loop set bytes dir cursors stop q₀ q = stop - q
 
 -- what the function looks at, from a place at the loop's head
 abbrev src : tie.At-loop Inv-loop μ-loop → Source
 src h =
     let at-start : tie.Start Inv-loop μ-loop = search in
-    let a = at-start .args in source (now (a .bytes)) (now (a .dir)) (now (a .cursors))
+    let a = at-start .args in source (rulesOf (a .set)) (now (a .bytes)) (now (a .dir)) (now (a .cursors))
 
 loop-holds : tie.Need-loop-holds Inv-loop μ-loop
 loop-holds c = (search needs, refl)
@@ -38,8 +39,11 @@ is-match-requires c κs = search needs
 -- what is seen at a position
 seen : (x : tie.After-is-match Inv-loop μ-loop) →
     let h : tie.At-loop Inv-loop μ-loop = search in
-    x .is-match .result ≡ isMatch (typeIn (byteIn (src h) (h .loop .q) 0))
-seen x = x .is-match .ensures ∙ ap isMatch (x .before .type-in .ensures ∙ ap typeIn (x .before .before .byte-in .ensures))
+    x .is-match .result ≡ isMatch (typeAt (src h) (h .loop .q))
+seen x =
+    let at-start : tie.Start Inv-loop μ-loop = search in
+    let rules = rulesOf (at-start .args .set) in
+    x .is-match .ensures ∙ ap isMatch (x .before .type-in .ensures ∙ ap (typeIn (rules .numbers)) (x .before .before .byte-in .ensures rules))
 
 returns : tie.Need-returns Inv-loop μ-loop
 returns c =

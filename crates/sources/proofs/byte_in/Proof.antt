@@ -31,6 +31,7 @@ byte-in-requires c κs =
 returns : tie.Need-returns
 unfolding byteIn
 returns c =
+    λ rules.
     let e = c .before in
     rw (← e .before .before .span-of .ensures, ← e .before .cursor-of .ensures, ← e .end-of .ensures) (c .byte-in .ensures)
 

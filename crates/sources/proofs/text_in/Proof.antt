@@ -31,6 +31,7 @@ text-in-requires c κs =
 returns : tie.Need-returns
 unfolding textIn
 returns c =
+    λ rules.
     let e = c .before in
     rw (← e .before .before .span-of .ensures, ← e .before .cursor-of .ensures, ← e .end-of .ensures) (c .text-in .ensures)
 

@@ -1,5 +1,6 @@
 use denote.Ref.{now}
 use Rattle.sources.specs.Source.{source, earlier}
+use Rattle.tokens.specs.Types.{rulesOf}
 use mathlib.Core.Path.{sym, _∙_}
 use Rattle.steps.proofs.Ways.{typed-barred, typed-value}
 use Rattle.steps.specs.Steps.{typedStep}
@@ -32,10 +33,10 @@ returns-2 c =
     let t : tie.After-type-of = search in
     let at-start : tie.Start = search in
     let a = at-start .args in
-    let s = source (now (a .bytes)) (now (a .dir)) (now (a .cursors)) in
+    let s = source (rulesOf (a .set)) (now (a .bytes)) (now (a .dir)) (now (a .cursors)) in
     let e = earlier (now (a .text)) (now (a .rows)) (a .first) (a .count) in
     rw (t .before .before .found .given .1)
-    (typed-value s e (a .p .0) _ _ (t .type-of .ensures) (sym (c .before .before .barred .ensures) ∙ c .before .if1 .left) (c .value-step .ensures))
+    (typed-value s e (a .p .0) _ _ (t .type-of .ensures) (sym (c .before .before .barred .ensures) ∙ c .before .if1 .left) (c .value-step .ensures (rulesOf (a .set))))
 
 returns-3 : tie.Need-returns-3
 unfolding typedStep

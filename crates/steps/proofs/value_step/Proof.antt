@@ -63,43 +63,45 @@ enum-told-9 c = search needs
 
 returns : tie.Need-returns
 unfolding valueStep
-returns c = rw (c .before .before .enum-told .given .1, ← c .before .text-in .ensures) (c .string-step .ensures)
+returns c = λ rules. rw (c .before .before .enum-told .given .1, ← c .before .text-in .ensures rules) (c .string-step .ensures)
 
 returns-2 : tie.Need-returns-2
 unfolding valueStep
-returns-2 c = rw (c .before .before .enum-told2 .given .1, ← c .before .byte-in .ensures) (c .char-step .ensures)
+returns-2 c = λ rules. rw (c .before .before .enum-told2 .given .1, ← c .before .byte-in .ensures rules) (c .char-step .ensures)
 
 returns-3 : tie.Need-returns-3
 unfolding valueStep
-returns-3 c = rw (c .before .before .enum-told3 .given .1, ← c .before .four-in .ensures) (c .digits-step .ensures)
+returns-3 c = λ rules. rw (c .before .before .enum-told3 .given .1, ← c .before .four-in .ensures rules) (c .digits-step .ensures)
 
 returns-4 : tie.Need-returns-4
 unfolding valueStep
-returns-4 c = rw (c .before .enum-told4 .given .1) (c .digits0-at .ensures)
+returns-4 c = λ rules. rw (c .before .enum-told4 .given .1) (c .digits0-at .ensures rules)
 
 returns-5 : tie.Need-returns-5
 unfolding valueStep
 returns-5 c =
+    λ rules.
     let at-start : tie.Start = search in
-    rw (c .before .enum-told5 .given .1) (c .delta-at .ensures (now (at-start .args .text)))
+    rw (c .before .enum-told5 .given .1) (c .delta-at .ensures rules (now (at-start .args .text)))
 
 returns-6 : tie.Need-returns-6
 unfolding valueStep
 returns-6 c =
+    λ rules.
     let at-start : tie.Start = search in
-    rw (c .before .enum-told6 .given .1) (c .delta0-at .ensures (now (at-start .args .text)))
+    rw (c .before .enum-told6 .given .1) (c .delta0-at .ensures rules (now (at-start .args .text)))
 
 returns-7 : tie.Need-returns-7
 unfolding valueStep
-returns-7 c = rw (c .before .enum-told7 .given .1) (c .match-at .ensures)
+returns-7 c = λ rules. rw (c .before .enum-told7 .given .1) (c .match-at .ensures)
 
 returns-8 : tie.Need-returns-8
 unfolding valueStep
-returns-8 c = rw (c .enum-told8 .given .1)
+returns-8 c = λ rules. rw (c .enum-told8 .given .1)
 
 returns-9 : tie.Need-returns-9
 unfolding valueStep
-returns-9 c = rw (c .enum-told9 .given .1)
+returns-9 c = λ rules. rw (c .enum-told9 .given .1)
 
 pub value-step-spec : {M : Type 1} → statement M
 value-step-spec =

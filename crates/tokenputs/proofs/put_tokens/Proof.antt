@@ -7,16 +7,17 @@ use borrow.Author.Needs.{needs}
 use Rattle.splitting.proofs.Runs.{cut-range}
 use Rattle.splitting.proofs.Cuts.{cut-end}
 use Rattle.choices.proofs.Choices.{choice-within}
+use Rattle.tokens.specs.Types.{rulesOf}
 use Rattle.laying.specs.Passes.{world}
 use Rattle.tokenputs.proofs.Walks.{Walking, walk-start, walk-room, walk-more, walk-last, walk-end}
 use Rattle.tokenputs.proofs.put_tokens.Statement.{statement}
 use Rattle.tokenputs.proofs.put_tokens.Tie as tie
 
 abbrev Inv-loop : tie.InvT-loop
-Inv-loop pass total directory₀ bytes₀ table before name sum₀ p₀ a₀ b₀ directory bytes sum p a b = (length directory ≡ length directory₀) × ((length bytes ≡ length bytes₀) × Walking pass before name (world total directory₀ bytes₀) (world sum directory bytes) p a b)
+Inv-loop set pass total directory₀ bytes₀ table before name sum₀ p₀ a₀ b₀ directory bytes sum p a b = (length directory ≡ length directory₀) × ((length bytes ≡ length bytes₀) × Walking (rulesOf set) pass before name (world total directory₀ bytes₀) (world sum directory bytes) p a b)
 
 abbrev μ-loop : tie.MeasureT-loop
-μ-loop pass total directory₀ bytes₀ table before name sum₀ p₀ a₀ b₀ directory bytes sum p a b = length name - a
+μ-loop set pass total directory₀ bytes₀ table before name sum₀ p₀ a₀ b₀ directory bytes sum p a b = length name - a
 
 loop-holds : tie.Need-loop-holds Inv-loop μ-loop
 loop-holds c =
@@ -81,9 +82,9 @@ loop-again c =
     let l = at-loop .loop in
     let a = s .args in
     let k = at-put-choice .put-choice .kept in (
-      k .1 .1 .0 ∙ l .inv .0,
+      k .1 .1 .1 .0 ∙ l .inv .0,
       (
-        k .1 .1 .1 .0 ∙ l .inv .1 .0,
+        k .1 .1 .1 .1 .0 ∙ l .inv .1 .0,
         walk-more (a .pass) (now (a .before)) (now (a .name)) (world (a .total) (now (a .directory)) (now (a .bytes))) (world (l .sum) (l .directory) (l .bytes)) (l .p) (l .a) (l .b) (l .inv .1 .1) (in-loop .loop-test .taken) _ (at-choice-at .choice-at .ensures) (at-put-choice .put-choice .ensures) (cut-end (now (a .name)) (l .p) (l .a) (at-choice-at .before .before .cut-at .ensures)) (cut-end (now (a .before)) (l .p) (l .b) (at-choice-at .before .cut-at2 .ensures)),
       ),
     )

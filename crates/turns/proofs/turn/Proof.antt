@@ -13,15 +13,19 @@ use Rattle.turns.proofs.OneTurn.{turn-got, turn-ends, turn-refuses, tur
 use borrow.Author.Needs.{needs}
 use Rattle.turns.proofs.turn.Statement.{statement}
 use Rattle.turns.proofs.turn.Tie as tie
+use Rattle.tokens.specs.Types.{rulesOf}
 
 -- what the function looks at, from its entry
 abbrev Entry : Type 0
 Entry = tie.After-slice-known3
 
+abbrev to-start : tie.After-byte-in → tie.Start
+to-start s = search
+
 abbrev src : Entry → Source
 src h =
     let at-start : tie.Start = search in
-    let a = at-start .args in source (now (a .bytes)) (now (a .dir)) (now (a .cursors))
+    let a = at-start .args in source (rulesOf (a .set)) (now (a .bytes)) (now (a .dir)) (now (a .cursors))
 
 abbrev back : Entry → Earlier
 back h =
@@ -58,7 +62,7 @@ stepped x =
     let at-byte-in : tie.After-byte-in = search in
     let at-slice-known3 : tie.After-slice-known3 = search in
     let at-start : tie.Start = search in
-    step-of (src at-slice-known3) (back at-slice-known3) (at-start .args .at .p .0) (at-byte-in .byte-in .ensures) (x .typed-step .ensures)
+    step-of (src at-slice-known3) (back at-slice-known3) (at-start .args .at .p .0) (at-byte-in .byte-in .ensures (rulesOf (at-start .args .set))) (x .typed-step .ensures)
 
 byte-in-requires : tie.Need-byte-in-requires
 byte-in-requires c κs = search needs
@@ -81,7 +85,7 @@ take-requires c κs =
     let a : tie.Start = search in
     let q = sym (stepped at-typed-step) ∙ at-t .t .given .1 in (
       token-inside (src h) (back h) (a .args .at) (known h) (dir-below h) _ _ q,
-      (a .pre .1 .1 .0 .0, λ k. token-keeps (src h) (back h) (a .args .at) (known h) (dir-below h) _ _ q (at-byte-in .byte-in .ensures) (a .pre .1 .1 .1 k)),
+      (a .pre .1 .1 .0 .0, λ k. token-keeps (src h) (back h) (a .args .at) (known h) (dir-below h) _ _ q (at-byte-in .byte-in .ensures (rulesOf (a .args .set))) (a .pre .1 .1 .1 k)),
     )
 
 enum-told : tie.Need-enum-told
@@ -105,8 +109,9 @@ returns c =
     let at-t : tie.After-t = search in
     let at-typed-step : tie.After-typed-step = search in
     let at-byte-in : tie.After-byte-in = search in
+    let rules = rulesOf (to-start at-byte-in .args .set) in
     let q = sym (stepped at-typed-step) ∙ at-t .t .given .1 in let x = at-take .take .ensures in
-    (turn-got _ _ _ _ q (x .0), turn-puts _ _ _ _ q (ap typeIn (at-byte-in .byte-in .ensures)) (x .1))
+    (turn-got _ _ _ _ q (x .0), turn-puts _ _ _ _ q (ap (typeIn (rules .numbers)) (at-byte-in .byte-in .ensures rules)) (x .1))
 
 same-length-4 : tie.Need-same-length-4
 same-length-4 c = search needs

@@ -12,7 +12,7 @@ padded-of-requires : tie.Need-padded-of-requires
 padded-of-requires c κs = search needs
 
 returns : tie.Need-returns
-returns c = rw (← c .before .before .four-in .ensures, ← c .before .byte-in .ensures) (c .padded-of .ensures)
+returns c = λ rules. rw (← c .before .before .four-in .ensures rules, ← c .before .byte-in .ensures rules) (c .padded-of .ensures)
 
 pub padded-in-spec : {M : Type 1} → statement M
 padded-in-spec =

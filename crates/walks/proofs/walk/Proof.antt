@@ -2,6 +2,7 @@ use native.Mathlib.Omega.{arith}
 use Prim.Native.Nat.{_+_, _-_, _≤_}
 use mathlib.Core.Path.{_≡_, _∙_}
 use denote.Ref.{now}
+use Rattle.tokens.specs.Types.{rulesOf}
 use Rattle.sources.specs.Source.{earlier}
 use Rattle.steps.specs.Steps.{stepAt}
 use Rattle.values.specs.declared.Step.the-variants as step
@@ -12,13 +13,13 @@ use Rattle.walks.proofs.walk.Statement.{statement}
 use Rattle.walks.proofs.walk.Tie as tie
 
 abbrev Inv-loop : tie.InvT-loop
-Inv-loop keeping known bytes dir cursors₀ text₀ rows₀ first count used row end p₀ len₀ cursors text rows p len =
+Inv-loop set keeping known bytes dir cursors₀ text₀ rows₀ first count used row end p₀ len₀ cursors text rows p len =
     Walking
-    (record { keeping = keeping; bytes = bytes; dir = dir; start = memory text₀ rows₀ cursors₀; first = first; count = count; used = used; row = row; end = end .0 })
+    (record { keeping = keeping; rules = rulesOf set; bytes = bytes; dir = dir; start = memory text₀ rows₀ cursors₀; first = first; count = count; used = used; row = row; end = end .0 })
     (memory text rows cursors) (p .0) len
 
 abbrev μ-loop : tie.MeasureT-loop
-μ-loop keeping known bytes dir cursors₀ text₀ rows₀ first count used row end p₀ len₀ cursors text rows p len = 129 - p .0
+μ-loop set keeping known bytes dir cursors₀ text₀ rows₀ first count used row end p₀ len₀ cursors text rows p len = 129 - p .0
 
 abbrev to-last : tie.After-run Inv-loop μ-loop → tie.After-last Inv-loop μ-loop
 to-last s = search
@@ -35,7 +36,8 @@ way s =
     let at-start : tie.Start Inv-loop μ-loop = search in
     let a = at-start .args in
     record {
-      keeping = a .keeping;
+      keeping = a .keep;
+      rules = rulesOf (a .set);
       bytes = now (a .bytes);
       dir = now (a .dir);
       start = memory (now (a .text)) (now (a .rows)) (now (a .cursors));
@@ -73,7 +75,7 @@ Run = tie.After-known-told Inv-loop μ-loop
 abbrev after : Run → Memory
 after k =
     let at-run : tie.After-run Inv-loop μ-loop = search in
-    let z = at-run .run .last .1 .1 .1 .1 in memory (z .1 .0) (z .1 .1 .0) (z .0)
+    let z = at-run .run .last .1 .1 .1 .1 .1 in memory (z .1 .0) (z .1 .1 .0) (z .0)
 
 run-on : (k : Run) →
     let at-run : tie.After-run Inv-loop μ-loop = search in
@@ -122,19 +124,19 @@ same-length : tie.Need-same-length Inv-loop μ-loop
 same-length c =
     let at-run : tie.After-run Inv-loop μ-loop = search in
     let h : tie.At-loop Inv-loop μ-loop = search in
-    at-run .run .kept .1 .1 .1 .1 .0 ∙ tables (way (h .before)) (asked (h .before)) (here h) _ _ (h .loop .inv)
+    at-run .run .kept .1 .1 .1 .1 .1 .0 ∙ tables (way (h .before)) (asked (h .before)) (here h) _ _ (h .loop .inv)
 
 same-length-2 : tie.Need-same-length-2 Inv-loop μ-loop
 same-length-2 c =
     let at-run : tie.After-run Inv-loop μ-loop = search in
     let at-loop : tie.At-loop Inv-loop μ-loop = search in
-    at-run .run .kept .1 .1 .1 .1 .1 .0 ∙ at-loop .loop .inv .lengthText
+    at-run .run .kept .1 .1 .1 .1 .1 .1 .0 ∙ at-loop .loop .inv .lengthText
 
 same-length-3 : tie.Need-same-length-3 Inv-loop μ-loop
 same-length-3 c =
     let at-run : tie.After-run Inv-loop μ-loop = search in
     let at-loop : tie.At-loop Inv-loop μ-loop = search in
-    at-run .run .kept .1 .1 .1 .1 .1 .1 .0 ∙ at-loop .loop .inv .lengthRows
+    at-run .run .kept .1 .1 .1 .1 .1 .1 .1 .0 ∙ at-loop .loop .inv .lengthRows
 
 returns : tie.Need-returns Inv-loop μ-loop
 returns c =
@@ -163,7 +165,7 @@ next : (c : tie.After-known-told2 Inv-loop μ-loop) →
     let k : tie.After-known-told Inv-loop μ-loop = search in
     let at-run : tie.After-run Inv-loop μ-loop = search in
     let at-last : tie.After-last Inv-loop μ-loop = search in
-    let z = at-turn .turn .last .1 .1 .1 in Walking (way at-last) (memory (z .1 .0) (z .1 .1 .0) (z .0)) (k .before .q .given .0 .0 .0 + 1) (k .before .q .given .0 .1 .0 + c .before .w .given .0 .0)
+    let z = at-turn .turn .last .1 .1 .1 .1 in Walking (way at-last) (memory (z .1 .0) (z .1 .1 .0) (z .0)) (k .before .q .given .0 .0 .0 + 1) (k .before .q .given .0 .1 .0 + c .before .w .given .0 .0)
 next c =
     let at-slice-known9 : tie.After-slice-known9 Inv-loop μ-loop = search in
     let at-slice-known8 : tie.After-slice-known8 Inv-loop μ-loop = search in
@@ -178,8 +180,8 @@ next c =
 add-len : tie.Need-add-len Inv-loop μ-loop
 add-len c = omega (arith, next c .short)
 
-add-t35 : tie.Need-add-t35 Inv-loop μ-loop
-add-t35 c =
+add-t36 : tie.Need-add-t36 Inv-loop μ-loop
+add-t36 c =
     let at-turn : tie.After-turn Inv-loop μ-loop = search in
     let at-known-told : tie.After-known-told Inv-loop μ-loop = search in
     omega (arith, on-bounds at-known-told .1)
@@ -203,7 +205,7 @@ End = tie.After-enum-told2 Inv-loop μ-loop
 abbrev ending : End → Memory
 ending c =
     let at-turn : tie.After-turn Inv-loop μ-loop = search in
-    let z = at-turn .turn .last .1 .1 .1 in memory (z .1 .0) (z .1 .1 .0) (z .0)
+    let z = at-turn .turn .last .1 .1 .1 .1 in memory (z .1 .0) (z .1 .1 .0) (z .0)
 
 at-end : (c : End) →
     let at-turn : tie.After-turn Inv-loop μ-loop = search in
@@ -269,19 +271,19 @@ same-length-7 c =
     let k : tie.After-known-told Inv-loop μ-loop = search in
     let at-run : tie.After-run Inv-loop μ-loop = search in
     let at-last : tie.After-last Inv-loop μ-loop = search in
-    at-turn .turn .kept .1 .1 .1 .0 ∙ tables (way at-last) (asked at-last) (after k) _ _ (run-on k)
+    at-turn .turn .kept .1 .1 .1 .1 .0 ∙ tables (way at-last) (asked at-last) (after k) _ _ (run-on k)
 
 same-length-8 : tie.Need-same-length-8 Inv-loop μ-loop
 same-length-8 c =
     let at-turn : tie.After-turn Inv-loop μ-loop = search in
     let at-known-told : tie.After-known-told Inv-loop μ-loop = search in
-    at-turn .turn .kept .1 .1 .1 .1 .0 ∙ run-on at-known-told .lengthText
+    at-turn .turn .kept .1 .1 .1 .1 .1 .0 ∙ run-on at-known-told .lengthText
 
 same-length-9 : tie.Need-same-length-9 Inv-loop μ-loop
 same-length-9 c =
     let at-turn : tie.After-turn Inv-loop μ-loop = search in
     let at-known-told : tie.After-known-told Inv-loop μ-loop = search in
-    at-turn .turn .kept .1 .1 .1 .1 .1 .0 ∙ run-on at-known-told .lengthRows
+    at-turn .turn .kept .1 .1 .1 .1 .1 .1 .0 ∙ run-on at-known-told .lengthRows
 
 returns-3 : tie.Need-returns-3 Inv-loop μ-loop
 returns-3 c =
@@ -323,7 +325,7 @@ walk-spec =
     turn-requires
     enum-known-w
     add-len
-    add-t35
+    add-t36
     loop-less
     loop-again
     enum-told-2

@@ -1,5 +1,6 @@
 use native.Mathlib.Omega.{arith}
 use denote.Ref.{now}
+use Rattle.tokens.specs.Types.{rulesOf}
 use borrow.Author.Tests.{not-true, not-false}
 use borrow.Author.Needs.{needs}
 use Rattle.writing.proofs.Laid.{no-room, room, still-ready, done}
@@ -21,7 +22,7 @@ returns c =
     let s : tie.Start = search in
     let a = s .args in
     let e = at-fits2 .fits2 .ensures in
-    no-room (now (a .input)) (now (a .directory)) (now (a .bytes)) (s .pre .1 .0) (e .0) (e .1 .0) (e .1 .1) (not-true _ (c .if1 .taken))
+    no-room (rulesOf (a .set)) (now (a .input)) (now (a .directory)) (now (a .bytes)) (s .pre .1 .0) (e .0) (e .1 .0) (e .1 .1) (not-true _ (c .if1 .taken))
 
 fill-requires : tie.Need-fill-requires
 fill-requires c κs =
@@ -29,7 +30,7 @@ fill-requires c κs =
     let s : tie.Start = search in
     let a = s .args in
     let e = at-fits2 .fits2 .ensures in
-    (s .pre .0, (still-ready (now (a .input)) (now (a .directory)) (now (a .bytes)) (s .pre .1 .0) (e .0) (e .1 .0) (e .1 .1), room (now (a .input)) (now (a .directory)) (now (a .bytes)) (s .pre .1 .0) (e .0) (e .1 .0) (e .1 .1) (not-false _ (c .before .before .if1 .left))))
+    (s .pre .0, (still-ready (rulesOf (a .set)) (now (a .input)) (now (a .directory)) (now (a .bytes)) (s .pre .1 .0) (e .0) (e .1 .0) (e .1 .1), room (rulesOf (a .set)) (now (a .input)) (now (a .directory)) (now (a .bytes)) (s .pre .1 .0) (e .0) (e .1 .0) (e .1 .1) (not-false _ (c .before .before .if1 .left))))
 
 same-length-3 : tie.Need-same-length-3
 same-length-3 c = search needs
@@ -46,7 +47,7 @@ returns-2 c =
     let a = s .args in
     let e = at-fits2 .fits2 .ensures in
     let f = at-fill .fill .ensures in
-    done (now (a .input)) (now (a .directory)) (now (a .bytes)) (s .pre .1 .0) (e .0) (e .1 .0) (e .1 .1) (s .pre .1 .1) (not-false _ (at-else1 .if1 .left)) (omega (arith, f .0)) (f .1 .0) (f .1 .1)
+    done (rulesOf (a .set)) (now (a .input)) (now (a .directory)) (now (a .bytes)) (s .pre .1 .0) (e .0) (e .1 .0) (e .1 .1) (s .pre .1 .1) (not-false _ (at-else1 .if1 .left)) (omega (arith, f .0)) (f .1 .0) (f .1 .1)
 
 pub lay-spec : {M : Type 1} → statement M
 lay-spec =

@@ -1,7 +1,8 @@
-use Prim.Native.Nat.{ℕ, _≤_, _<_}
-use mathlib.Core.Path.{sym, _∙_, subst}
+use mathlib.Core.Path.{sym, _∙_}
+use native.Mathlib.Omega.{arith}
 use borrow.Author.Tests.{not-true, not-false}
 use denote.Ref.{now}
+use Rattle.tokens.specs.Types.{rulesOf}
 use borrow.Author.Needs.{needs}
 use Rattle.writing.proofs.Laid.{countable-of, unended, too-many, refused-1, refused-12, refused-8, judged, accepted}
 use Rattle.writing.proofs.write.Statement.{statement}
@@ -11,7 +12,7 @@ returns : tie.Need-returns
 returns c =
     let s : tie.Start = search in
     let a = s .args in
-    refused-1 (now (a .input)) (now (a .directory)) (now (a .bytes)) (c .if1 .taken)
+    refused-1 (rulesOf (a .set)) (now (a .input)) (now (a .directory)) (now (a .bytes)) (c .if1 .taken)
 
 all-ended-requires : tie.Need-all-ended-requires
 all-ended-requires c κs = search needs
@@ -20,7 +21,7 @@ returns-2 : tie.Need-returns-2
 returns-2 c =
     let s : tie.Start = search in
     let a = s .args in
-    refused-12 (now (a .input)) (now (a .directory)) (now (a .bytes)) (c .before .before .if1 .left) (unended (now (a .input)) (sym (c .before .all-ended .ensures) ∙ not-true _ (c .if2 .taken)))
+    refused-12 (rulesOf (a .set)) (now (a .input)) (now (a .directory)) (now (a .bytes)) (c .before .before .if1 .left) (unended (now (a .input)) (sym (c .before .all-ended .ensures) ∙ not-true _ (c .if2 .taken)))
 
 count-requires : tie.Need-count-requires
 count-requires c κs = search needs
@@ -34,7 +35,7 @@ returns-3 c =
     let at-else1 : tie.Else1 = search in
     let s : tie.Start = search in
     let a = s .args in
-    refused-12 (now (a .input)) (now (a .directory)) (now (a .bytes)) (at-else1 .if1 .left) (too-many (now (a .input)) (sym (at-all-ended .all-ended .ensures) ∙ not-false _ (c .before .before .if2 .left)) (subst (λ (m : ℕ). 65536 < m) (c .before .count .ensures) (c .if3 .taken)))
+    refused-12 (rulesOf (a .set)) (now (a .input)) (now (a .directory)) (now (a .bytes)) (at-else1 .if1 .left) (too-many (now (a .input)) (sym (at-all-ended .all-ended .ensures) ∙ not-false _ (c .before .before .if2 .left)) (omega (arith, c .before .count .ensures, c .if3 .taken)))
 
 table-requires : tie.Need-table-requires
 table-requires c κs = search needs
@@ -46,7 +47,7 @@ judge-requires c κs =
     let at-all-ended : tie.After-all-ended = search in
     let s : tie.Start = search in
     let a = s .args in
-    (c .before .table .ensures, ((sym (at-all-ended .all-ended .ensures) ∙ not-false _ (at-else2 .if2 .left)), (subst (λ (m : ℕ). m ≤ 65536) (at-count .count .ensures) (c .before .before .if3 .left))))
+    (c .before .table .ensures, ((sym (at-all-ended .all-ended .ensures) ∙ not-false _ (at-else2 .if2 .left)), omega (arith, at-count .count .ensures, c .before .before .if3 .left)))
 
 enum-known-n : tie.Need-enum-known-n
 enum-known-n c = search needs
@@ -70,7 +71,7 @@ lay-requires c κs =
       (
         record {
           ends = (sym (at-all-ended .all-ended .ensures) ∙ not-false _ (at-else2 .if2 .left));
-          few = (subst (λ (m : ℕ). m ≤ 65536) (at-table .before .before .count .ensures) (at-table .before .if3 .left));
+          few = omega (arith, at-table .before .before .count .ensures, at-table .before .if3 .left);
           fine = sym (at-judge .judge .ensures) ∙ at-enum-told .enum-told .given .1;
           table = at-all-ended .before .if1 .left;
         },
@@ -88,7 +89,7 @@ returns-4 c =
     let at-else1 : tie.Else1 = search in
     let s : tie.Start = search in
     let a = s .args in
-    judged (now (a .input)) (now (a .directory)) (now (a .bytes)) (at-else1 .if1 .left) (countable-of (now (a .input)) (sym (at-all-ended .all-ended .ensures) ∙ not-false _ (at-else2 .if2 .left)) (subst (λ (m : ℕ). m ≤ 65536) (at-count .count .ensures) (at-else3 .if3 .left))) (sym (at-judge .judge .ensures) ∙ c .before .n .given .1) (refused-8 (now (a .input)) (now (a .directory)) (now (a .bytes)) _)
+    judged (rulesOf (a .set)) (now (a .input)) (now (a .directory)) (now (a .bytes)) (at-else1 .if1 .left) (countable-of (now (a .input)) (sym (at-all-ended .all-ended .ensures) ∙ not-false _ (at-else2 .if2 .left)) (omega (arith, at-count .count .ensures, at-else3 .if3 .left))) (sym (at-judge .judge .ensures) ∙ c .before .n .given .1) (refused-8 (rulesOf (a .set)) (now (a .input)) (now (a .directory)) (now (a .bytes)) _)
 
 same-length : tie.Need-same-length
 same-length c = search needs
@@ -108,7 +109,7 @@ returns-5 c =
     let at-else1 : tie.Else1 = search in
     let s : tie.Start = search in
     let a = s .args in
-    judged (now (a .input)) (now (a .directory)) (now (a .bytes)) (at-else1 .if1 .left) (countable-of (now (a .input)) (sym (at-all-ended .all-ended .ensures) ∙ not-false _ (at-else2 .if2 .left)) (subst (λ (m : ℕ). m ≤ 65536) (at-count .count .ensures) (at-else3 .if3 .left))) (sym (at-judge .judge .ensures) ∙ at-enum-told .enum-told .given .1) (accepted (now (a .input)) (now (a .directory)) (now (a .bytes)) (at-lay .lay .ensures))
+    judged (rulesOf (a .set)) (now (a .input)) (now (a .directory)) (now (a .bytes)) (at-else1 .if1 .left) (countable-of (now (a .input)) (sym (at-all-ended .all-ended .ensures) ∙ not-false _ (at-else2 .if2 .left)) (omega (arith, at-count .count .ensures, at-else3 .if3 .left))) (sym (at-judge .judge .ensures) ∙ at-enum-told .enum-told .given .1) (accepted (rulesOf (a .set)) (now (a .input)) (now (a .directory)) (now (a .bytes)) (at-lay .lay .ensures))
 
 pub write-spec : {M : Type 1} → statement M
 write-spec =

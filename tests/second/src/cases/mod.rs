@@ -16,6 +16,7 @@ use crate::calls::Calls;
 use crate::compare::{compare, Case, Tally};
 use crate::memory::{Call, Memory, Room};
 use crate::refusal::DONE;
+use crate::round::{gives_back, WAYS};
 use random::Random;
 use script::{Packed, Script};
 
@@ -119,4 +120,17 @@ pub fn write_whole(input: &[u8], names: usize) -> ((u32, u32), Memory) {
     let mut memory = Memory::to_write(8 * input.len() + 64, names);
     let input = input.to_vec();
     (memory.ask(&Call::Write { input }), memory)
+}
+
+/// What was written from an input, handed on and read as users do; how many times.
+pub fn assert_given_back(input: &[u8], written: &Memory) -> usize {
+    let mut times = 0;
+    for way in &WAYS {
+        let Case { mut memory, calls } = way.case(input, written);
+        let answer = memory.ask(&calls[0]);
+        let given_back = gives_back(answer, &memory, input);
+        assert!(given_back, "{}: {answer:?}\n{memory}", way.word);
+        times += 1;
+    }
+    times
 }

@@ -1,0 +1,49 @@
+-- What is kept, by the words alone: the first of the names that the block's bytes, directory and count say (words/specs/Words), whatever memory was lent.
+use Prim.Native.Nat.{ℕ, _≤_, _<_}
+use mathlib.Core.Path.{_≡_}
+use mathlib.Core.List.{List}
+use mathlib.Core.Logic.{_⊎_}
+use lib.Dec.{ltb}
+use lib.ListN.{length, getD}
+use Rattle.base.specs.Choice.{pick}
+use Rattle.block.specs.declared.Refusal.the-variants as refusal
+use Rattle.entries.specs.declared.Answer.{Answer}
+use Rattle.entries.specs.declared.Answer.the-variants as answer
+use Rattle.words.specs.Values.{Name, nobody}
+use Rattle.words.specs.Words.{Ending, done, unread, stopped, Telling}
+use Rattle.standing.specs.Stands.{Stands}
+use Rattle.demands.specs.Runs.{Lent, read, nameAt}
+use Rattle.tokens.specs.Types.{Rules}
+
+-- what the ending answers with k names kept
+unfoldable pub endsWith : ℕ → Ending → Answer
+endsWith k done = answer.Done
+endsWith k unread = answer.Refused (refusal.Plain 10)
+endsWith k (stopped r) = answer.Refused (refusal.At r k)
+
+-- what the words answer to a read with k names kept: the next name, or the ending
+unfoldable pub answerAt : Telling → ℕ → Answer
+answerAt b k = pick (ltb k (length (b .names))) (answer.Kept k) (endsWith k (b .ending))
+
+-- what is kept in z, of a block that says b
+pub record ByWords (rules : Rules) (bytes dir : List ℕ) (b : Telling) (z : Lent) : Type 0 where
+  -- no more names than the block says
+  pub few : z .kept .state .names ≤ length (b .names)
+  -- name i is the i-th of them: its text, its distance, and each of its rows
+  pub each : (i : ℕ) → i < z .kept .state .names → Stands (z .kept) i (getD (b .names) i nobody)
+  -- a read answers as the words do; or 9, there being a name to keep
+  pub answers : (read rules bytes dir z .answer ≡ answerAt b (z .kept .state .names))
+      ⊎ ((z .kept .state .names < length (b .names)) × (read rules bytes dir z .answer ≡ answer.Refused (refusal.At 9 (z .kept .state .names))))
+
+-- a refusal r that carries name n is how the block ends: all of its names are kept, and the next is refused with r
+pub record EndsAt (b : Telling) (z : Lent) (r n : ℕ) : Type 0 where
+  pub all : z .kept .state .names ≡ length (b .names)
+  pub number : n ≡ length (b .names)
+  pub ending : b .ending ≡ stopped r
+
+-- two memories hold one name
+pub record SameName (z w : Lent) (i : ℕ) : Type 0 where
+  pub name : Name
+  pub one : Stands (z .kept) i name
+  pub other : Stands (w .kept) i name
+  pub bytes : nameAt z i ≡ nameAt w i

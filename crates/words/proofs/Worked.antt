@@ -1,0 +1,17 @@
+-- The paper's example, computed.
+use mathlib.Core.Path.{_≡_, refl}
+use Rattle.base.specs.Choice.{pick}
+use Rattle.base.specs.Every.{every, numbers}
+use Rattle.digits.specs.Digits.{low, padded, countWithin, digitCount, printed, fitsWidth}
+use Rattle.classes.specs.Classes.{isAllowed}
+use Rattle.block.specs.Block.{spanOf}
+use Rattle.tokens.specs.Types.{numbersOf, typeOf}
+use Rattle.bars.specs.Bars.{carries, barred}
+use Rattle.words.specs.Fronts.{leave, byte, four, longer, text, then, taken}
+use Rattle.words.specs.Values.{prints}
+use Rattle.words.specs.Words.{fitting, summed, summed0, onDigits, onDigits0, onAny, resolved, typed, found, onward, behind, tokensFrom, copy, made, headed, next, isEmpty, goOn, namesFrom}
+use Rattle.words.specs.Worked.{nothing, says, saying}
+
+pub worked : saying ≡ says
+unfolding pick every numbers low padded countWithin digitCount printed fitsWidth isAllowed spanOf numbersOf typeOf carries barred leave byte four longer text then taken prints fitting summed summed0 onDigits onDigits0 onAny resolved typed found onward behind tokensFrom copy made headed next isEmpty goOn namesFrom nothing
+worked = refl

@@ -1,0 +1,4 @@
+pub mod Fronts
+pub mod Values
+pub mod Words
+pub mod Worked
