@@ -1,7 +1,10 @@
 // The C boundary: each call of the library behind a C function that hands on what it is lent.
 ghost use mathlib.Core.Path.{_≡_};
-ghost use Rattle.tokens.specs.Types.{rulesOf, draftPlain};
-ghost use Rattle.calls.specs.Calls.{opensLeft, openCallLent, readsLeft, readCallLent, blockCallLent, claimCallLent, writesLeft, writeCallLent};
+ghost use Rattle.types.specs.Types.{rulesOf, draftPlain};
+ghost use Rattle.opencalls.specs.Calls.{opensLeft, openCallLent};
+ghost use Rattle.readcalls.specs.Calls.{readsLeft, readCallLent, blockCallLent};
+ghost use Rattle.claimcalls.specs.Calls.{claimCallLent};
+ghost use Rattle.writecalls.specs.Calls.{writesLeft, writeCallLent};
 use block::Kind;
 use block::Mode;
 use block::Setting;
@@ -22,7 +25,7 @@ pub extern "C" fn aq_open(
 ) -> u64
     ensures { λ r. ⌜ opensLeft r cursors state ≡ openCallLent bytes dir count cursors state ⌝ }
 {
-    calls::open(bytes, dir, count, cursors, state)
+    opencalls::open(bytes, dir, count, cursors, state)
 }
 
 #[no_mangle]
@@ -66,7 +69,7 @@ pub extern "C" fn aq_claim(
 ) -> u64
     ensures { λ r. ⌜ r ≡ claimCallLent number claim text names state ⌝ }
 {
-    calls::claim(number, claim, text, names, state)
+    claimcalls::claim(number, claim, text, names, state)
 }
 
 #[no_mangle]
@@ -78,5 +81,5 @@ pub extern "C" fn aq_write(
 ) -> u64
     ensures { λ r. ⌜ writesLeft r dir bytes totals ≡ writeCallLent (rulesOf draftPlain) input dir bytes totals ⌝ }
 {
-    calls::write(DRAFT, input, dir, bytes, totals)
+    writecalls::write(DRAFT, input, dir, bytes, totals)
 }

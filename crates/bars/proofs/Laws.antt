@@ -5,8 +5,8 @@ use mathlib.Core.Bool.{Bool, false}
 use native.Mathlib.Omega.{arith}
 use borrow.Author.Tests.{ne-eqb}
 use Rattle.base.proofs.Choice.{pick-either, both-left}
-use Rattle.tokens.specs.declared.TokenType.{TokenType}
-use Rattle.tokens.specs.declared.TokenType.the-variants as type
+use Rattle.types.specs.declared.TokenType.{TokenType}
+use Rattle.types.specs.declared.TokenType.the-variants as type
 use Rattle.bars.specs.Bars.{carries, barred}
 
 pub unbarred-before : (p : ℕ) (t : TokenType) → p < 128 → barred p t ≡ false

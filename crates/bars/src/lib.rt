@@ -3,7 +3,7 @@ ghost use mathlib.Core.Path.{_≡_};
 ghost use Rattle.bars.specs.Bars.{carries, barred};
 use block::Block;
 use spans::Position;
-use tokens::TokenType;
+use types::TokenType;
 
 // A type in the table other than END.
 fn carries(t: TokenType) -> bool

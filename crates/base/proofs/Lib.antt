@@ -1,6 +1,5 @@
 pub mod Choice
 pub mod Every
-pub mod Equal
 pub mod Memory
 pub mod Lists
 pub mod Below

@@ -1,5 +1,4 @@
 pub mod Choice
 pub mod Every
 pub mod Memory
-pub mod Same
 pub mod Lent

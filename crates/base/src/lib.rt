@@ -1,11 +1,10 @@
-// What every layer stands on: choosing by a test, parts of lent memory and writes to it, and when texts are the same.
+// What every layer stands on: choosing by a test, parts of lent memory and writes to it.
 // Nothing here knows the format.
 ghost use mathlib.Core.Path.{_≡_};
 ghost use mathlib.Core.List.{[], _∷_};
 ghost use Prim.Native.Nat.{_≤_, _+_, _-_};
 ghost use lib.ListN.{length};
 ghost use Rattle.base.specs.Memory.{written, part};
-ghost use Rattle.base.specs.Same.{same};
 ghost use Rattle.base.specs.Lent.{lent, left};
 
 // One byte at a place.
@@ -60,29 +59,4 @@ pub fn copy_within(buf: &mut [u8], from: usize, to: usize, at: usize)
         buf[at + j] = buf[from + j];
         j += 1;
     }
-}
-
-// The lengths first: bytes that agree up to the shorter one are not the same. Then the last byte, where most names that
-// follow each other differ. From there on there is no way out: texts that come so far are mostly the same, and a loop
-// without one takes many bytes at once.
-pub fn same(a: &[u8], b: &[u8]) -> bool
-    ensures { λ r. ⌜ r ≡ same (lent a) (lent b) ⌝ }
-{
-    if a.len() != b.len() {
-        return false;
-    }
-    let n = a.len();
-    if n == 0 {
-        return true;
-    }
-    if a[n - 1] != b[n - 1] {
-        return false;
-    }
-    let mut equal = true;
-    let mut i: usize = 0;
-    while i < n {
-        equal = equal & (a[i] == b[i]);
-        i += 1;
-    }
-    equal
 }

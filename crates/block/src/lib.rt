@@ -57,25 +57,30 @@ pub enum Verdict {
     Inside,
 }
 
-pub fn span_of(p: Position, stream: u32) -> usize
+// Counts spans, position by position. Only `span_of` makes one, so that no other index is taken for it.
+pub struct Span(pub usize);
+
+pub fn span_of(p: Position, stream: u32) -> Span
     requires { ⌜ (p .0 ≤ 128) × (stream ≤ 9) ⌝ }
-    ensures { λ r. ⌜ r ≡ spanOf (p .0) stream ⌝ }
+    ensures { λ r. ⌜ r .0 ≡ spanOf (p .0) stream ⌝ }
 {
-    (Block::STREAMS * p.0 + stream) as usize
+    Span((Block::STREAMS * p.0 + stream) as usize)
 }
 
-pub fn end_of(dir: &[u32], span: usize) -> Cursor
-    requires { ⌜ (length (now dir) ≡ 2580) × (span < 1290) ⌝ }
-    ensures { λ r. ⌜ r .0 ≡ endOf (lent dir) span ⌝ }
+pub fn end_of(dir: &[u32], span: Span) -> Cursor
+    requires { ⌜ (length (now dir) ≡ 2580) × (span .0 < 1290) ⌝ }
+    ensures { λ r. ⌜ r .0 ≡ endOf (lent dir) (span .0) ⌝ }
 {
-    Cursor(dir[2 * span + 1])
+    let i = span.0;
+    Cursor(dir[2 * i + 1])
 }
 
-pub fn cursor_of(cursors: &[u32], span: usize) -> Cursor
-    requires { ⌜ (length (now cursors) ≡ 1290) × (span < 1290) ⌝ }
-    ensures { λ r. ⌜ r .0 ≡ cursorOf (lent cursors) span ⌝ }
+pub fn cursor_of(cursors: &[u32], span: Span) -> Cursor
+    requires { ⌜ (length (now cursors) ≡ 1290) × (span .0 < 1290) ⌝ }
+    ensures { λ r. ⌜ r .0 ≡ cursorOf (lent cursors) (span .0) ⌝ }
 {
-    Cursor(cursors[span])
+    let i = span.0;
+    Cursor(cursors[i])
 }
 
 // An end has 32 bits, and numbers of one width are judged faster.

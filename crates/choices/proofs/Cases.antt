@@ -5,7 +5,7 @@ use mathlib.Core.List.{List, [], _∷_}
 use lib.ListN.{replicate}
 use Rattle.base.specs.Choice.{pick}
 use Rattle.base.specs.Memory.{part}
-use Rattle.base.specs.Same.{same}
+use Rattle.comparing.specs.Same.{same}
 use Rattle.digits.specs.Digits.{isDigit, valueOf, valueFrom}
 use Rattle.pieces.specs.declared.Piece.the-variants.{String, Char, Digits, Digits0}
 use Rattle.choices.specs.declared.Choice.the-variants.{Itself, Delta0, Match, End}

@@ -4,7 +4,7 @@ use mathlib.Core.List.{List}
 use lib.Dec.{eqb, ltb}
 use lib.ListN.{length}
 use Rattle.base.specs.Memory.{part}
-use Rattle.base.specs.Same.{same}
+use Rattle.comparing.specs.Same.{same}
 use Rattle.base.proofs.Choice.{pick-either}
 use Rattle.tokens.specs.declared.Padded.{Padded}
 use Rattle.pieces.specs.declared.Piece.{Piece}

@@ -29,7 +29,7 @@ fn lean_string(name: &[u8], a: usize, e: usize, before: &[u8], u: Piece) -> Choi
 {
     match u {
         Piece::String { start, end } => {
-            if base::same(&name[a..e], &before[start..end]) {
+            if comparing::same(&name[a..e], &before[start..end]) {
                 return Choice::Match;
             }
             Choice::Itself(Piece::String { start: a, end: e })

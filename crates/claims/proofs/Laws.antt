@@ -6,13 +6,13 @@ use mathlib.Core.List.{List}
 use borrow.Author.Tests.{lt-ltb, le-ltb, ltb-true, ltb-false}
 use lib.Dec.{ltb}
 use lib.ListN.{length}
-use Rattle.base.specs.Same.{same}
+use Rattle.comparing.specs.Same.{same}
 use Rattle.base.proofs.Choice.{took, left, by-test, never, fails}
-use Rattle.base.proofs.Equal.{same-equal, equal-same, same-differ, differ-same}
+use Rattle.comparing.proofs.Equal.{same-equal, equal-same, same-differ, differ-same}
 use Rattle.block.specs.declared.State.{State}
 use Rattle.block.specs.declared.Refusal.the-variants as refusal
-use Rattle.kept.specs.declared.Entry.{Entry}
-use Rattle.kept.specs.Tables.{entrySize, room, entryAt}
+use Rattle.tables.specs.declared.Entry.{Entry}
+use Rattle.tables.specs.Tables.{entrySize, room, entryAt}
 use Rattle.kept.specs.Judgement.{textCounts, entryText}
 use Rattle.kept.specs.Inside.{TextCounted, TextInside}
 use Rattle.kept.proofs.Laws.{text-counted, text-counts-of, text-inside, entry-text-of}

@@ -4,7 +4,7 @@ use mathlib.Core.Path.{_≡_}
 use mathlib.Core.List.{List}
 use Rattle.block.specs.declared.State.{State}
 use Rattle.block.specs.declared.Refusal.the-variants as refusal
-use Rattle.kept.specs.Tables.{entryAt}
+use Rattle.tables.specs.Tables.{entryAt}
 use Rattle.kept.specs.Inside.{TextCounted, TextInside}
 use Rattle.claims.specs.declared.Verdict.{Verdict}
 use Rattle.claims.specs.declared.Verdict.the-variants.{Confirmed, Denied, Refused}

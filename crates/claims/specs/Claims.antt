@@ -4,12 +4,12 @@ use mathlib.Core.List.{List}
 use lib.Dec.{ltb}
 use lib.ListN.{length}
 use Rattle.base.specs.Choice.{pick}
-use Rattle.base.specs.Same.{same}
+use Rattle.comparing.specs.Same.{same}
 use Rattle.base.specs.Memory.{part}
 use Rattle.block.specs.declared.State.{State}
 use Rattle.block.specs.declared.Refusal.the-variants as refusal
-use Rattle.kept.specs.declared.Entry.{Entry}
-use Rattle.kept.specs.Tables.{entrySize, room, entryAt}
+use Rattle.tables.specs.declared.Entry.{Entry}
+use Rattle.tables.specs.Tables.{entrySize, room, entryAt}
 use Rattle.kept.specs.Judgement.{textCounts, entryText}
 use Rattle.claims.specs.declared.Verdict.{Verdict}
 use Rattle.claims.specs.declared.Verdict.the-variants.{Confirmed, Denied, Refused}

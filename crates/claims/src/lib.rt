@@ -6,7 +6,6 @@ ghost use Rattle.base.specs.Lent.{lent};
 use block::Refusal;
 use block::State;
 use kept::judgement;
-use kept::tables;
 
 pub enum Verdict {
     Confirmed,
@@ -29,7 +28,7 @@ pub fn claim(number: u32, claimed: &[u8], state: State, text: &[u8], names: &[u3
     }
     let start = e.start as usize;
     let end = start + e.length as usize;
-    if base::same(claimed, &text[start..end]) {
+    if comparing::same(claimed, &text[start..end]) {
         Verdict::Confirmed
     } else {
         Verdict::Denied

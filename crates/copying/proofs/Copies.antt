@@ -6,23 +6,25 @@ use mathlib.Core.List.{List, [], _∷_}
 use native.Mathlib.Omega.{arith}
 use lib.ListN.{length}
 use Rattle.base.specs.Memory.{written, part}
-use Rattle.base.proofs.Memory.{length-part, written-next, written-none}
+use Rattle.base.proofs.Memory.{length-part, written-next}
 use Rattle.block.specs.declared.State.{State}
 use Rattle.block.specs.Streams.{dupStream}
-use Rattle.tokens.specs.Types.{Rules}
-use Rattle.kept.specs.declared.Entry.{Entry}
-use Rattle.kept.specs.Tables.{entrySize, rowSize, keeping}
+use Rattle.types.specs.Types.{Rules}
+use Rattle.tables.specs.declared.Entry.{Entry}
+use Rattle.tables.specs.Tables.{entrySize, keeping, Table}
 use Rattle.kept.specs.Inside.{Counted, TextInside}
 use Rattle.sources.specs.Source.{source}
 use Rattle.names.specs.Names.{draft}
 use Rattle.entries.specs.declared.Reading.{Reading}
-use Rattle.entries.specs.Outcomes.{outcome, refusing}
+use Rattle.outcomes.specs.Outcomes.{outcome, refusing}
 use Rattle.entries.specs.Entries.{keepingName, roomOf, entryOf}
-use Rattle.entries.proofs.Entries.{has-room, keep-refused, keep-kept}
+use Rattle.outcomes.proofs.Keeping.{keep-refused, keep-kept}
+use Rattle.entries.proofs.Entries.{has-room}
 use Rattle.heads.specs.Heads.{headPast}
 use Rattle.copying.specs.Copies.{dupOf}
+use Rattle.tables.proofs.Rows.{put-none}
 
-module _ (bytes dir cur text names rows : List ℕ) (st : State) where
+module _ (bytes dir cur text names : List ℕ) (rows : Table) (st : State) where
   module _ (x : Entry) (distance : ℕ) (i : TextInside st x) (k : Counted (keeping st text names rows)) where
     part-length : x .length ≡ length (part text (x .start) (x .start + x .length))
     part-length =
@@ -33,7 +35,7 @@ module _ (bytes dir cur text names rows : List ℕ) (st : State) where
         → (x .start ≤ x .start + x .length) × ((x .start + x .length ≤ st .text) × (st .text + (x .start + x .length - x .start) ≤ length text))
     copy-asks h = (omega arith, (i .ends, omega (arith, has-room bytes dir cur text names rows st (x .length) 0 h .texts)))
 
-module _ (rules : Rules) (bytes dir cur text names rows : List ℕ) (st : State) where
+module _ (rules : Rules) (bytes dir cur text names : List ℕ) (rows : Table) (st : State) where
   module _ (x : Entry) (distance : ℕ) (i : TextInside st x) (k : Counted (keeping st text names rows)) where
     pub dup-refused : {r : Reading} → roomOf (keeping st text names rows) (x .length) 0 ≡ false → r ≡ refusing st 9
         → outcome (r .answer) cur (keeping (r .state) text names rows) ≡ dupOf (source rules bytes dir cur) (keeping st text names rows) distance x
@@ -53,4 +55,4 @@ module _ (rules : Rules) (bytes dir cur text names rows : List ℕ) (st : State)
         (u ∙ ap (λ (y : List ℕ). written y (st .text + x .length) (10 ∷ [])) t
         ∙ ap (λ (y : ℕ). written (written text (st .text) p) (st .text + y) (10 ∷ [])) l
         ∙ written-next text (st .text) p (10 ∷ []) (omega (arith, w .texts)))
-        n (sym (written-none rows (rowSize * st .rows) []))
+        n (sym (put-none rows (st .rows)))

@@ -2,15 +2,15 @@
 use Prim.Native.Nat.{ℕ, _+_}
 use mathlib.Core.List.{[]}
 use Rattle.base.specs.Memory.{part}
-use Rattle.base.specs.Lent.{Buffer, lent, left}
+use Rattle.base.specs.Lent.{Buffer, left}
 use Rattle.block.specs.Streams.{dupStream}
-use Rattle.kept.specs.declared.Entry.{Entry}
-use Rattle.kept.specs.Tables.{Kept, keeping}
+use Rattle.tables.specs.declared.Entry.{Entry}
+use Rattle.tables.specs.Tables.{Kept, keeping, rowsLent}
 use Rattle.sources.specs.Source.{Source}
 use Rattle.names.specs.Names.{draft}
 use Rattle.entries.specs.declared.Reading.{Reading}
-use Rattle.entries.specs.Outcomes.{Outcome, outcome}
-use Rattle.entries.specs.Entries.{keepOf}
+use Rattle.outcomes.specs.Outcomes.{Outcome, outcome}
+use Rattle.outcomes.specs.Keeping.{keepOf}
 use Rattle.heads.specs.Heads.{headPast}
 
 -- rule 3: the name, its first row and its row count are the earlier name's; the text is copied, no rows are added
@@ -20,4 +20,4 @@ dupOf s m distance e =
 
 -- what a read leaves that is lent the rows to look at only
 abbrev pub leavesRows : Reading → Buffer → Buffer → Buffer → Buffer → Outcome
-leavesRows r cursors text names rows = outcome (r .answer) (left cursors) (keeping (r .state) (left text) (left names) (lent rows))
+leavesRows r cursors text names rows = outcome (r .answer) (left cursors) (keeping (r .state) (left text) (left names) (rowsLent rows))

@@ -2,11 +2,11 @@
 use Prim.Native.Nat.{ℕ}
 use mathlib.Core.Path.{_≡_, subst}
 use native.Mathlib.Omega.{arith}
-use Rattle.kept.specs.Tables.{Kept}
+use Rattle.tables.specs.Tables.{Kept}
 use Rattle.sources.specs.Source.{Source}
 use Rattle.entries.specs.declared.Answer.the-variants as answer
-use Rattle.entries.specs.Outcomes.{Outcome}
-use Rattle.entries.specs.Entries.{kept}
+use Rattle.outcomes.specs.Outcomes.{Outcome}
+use Rattle.outcomes.specs.Keeping.{kept}
 use Rattle.reads.specs.Reads.{readOf}
 use Rattle.reads.proofs.Holding.{Holds}
 use Rattle.demands.specs.Adds.{Adds}

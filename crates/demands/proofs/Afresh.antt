@@ -9,16 +9,16 @@ use borrow.Author.Tests.{ne-eqb, le-leb, lt-leb, eqb-true, eqb-false}
 use lib.Dec.{leb, eqb}
 use lib.ListN.{length}
 use Rattle.base.specs.Choice.{pick, both}
-use Rattle.base.specs.Same.{same}
+use Rattle.comparing.specs.Same.{same}
 use Rattle.base.proofs.Choice.{pick-true, pick-false, pick-holds, by-test, both-none, both-left}
 use Rattle.spans.specs.declared.Cursor.{Cursor}
 use Rattle.spans.specs.declared.NextByte.the-variants as byte
 use Rattle.block.specs.Streams.{typeStream, diffStream}
-use Rattle.kept.specs.Tables.{Kept, entryAt}
+use Rattle.tables.specs.Tables.{Kept, entryAt, Table}
 use Rattle.tokens.specs.declared.Token.{Token}
-use Rattle.tokens.specs.declared.TokenType.{TokenType}
-use Rattle.tokens.specs.declared.TokenType.the-variants as type
-use Rattle.tokens.specs.Types.{typeOf}
+use Rattle.types.specs.declared.TokenType.{TokenType}
+use Rattle.types.specs.declared.TokenType.the-variants as type
+use Rattle.types.specs.Types.{typeOf}
 use Rattle.tokens.specs.Tokens.{bytesOf}
 use Rattle.sources.specs.Source.{Source, earlier, byteIn}
 use Rattle.values.specs.declared.Step.{Step}
@@ -31,8 +31,8 @@ use Rattle.steps.proofs.Frame.{step-earlier}
 use Rattle.names.specs.Names.{Draft, Named, named, grown, ended, printable, onward, nameFrom, nameOf}
 use Rattle.names.proofs.Growing.{never-named, grows, name-same}
 use Rattle.entries.specs.declared.Answer.the-variants as answer
-use Rattle.entries.specs.Outcomes.{Outcome}
-use Rattle.entries.specs.Entries.{kept}
+use Rattle.outcomes.specs.Outcomes.{Outcome}
+use Rattle.outcomes.specs.Keeping.{kept}
 use Rattle.earlier.specs.Back.{none}
 use Rattle.reads.specs.Reads.{readOf}
 use Rattle.references.specs.References.{anew, referenceOf}
@@ -45,7 +45,7 @@ use Rattle.demands.proofs.Lemmas.Stops.{stop-number}
 use Rattle.demands.proofs.Lemmas.Ways.{read-case}
 use Rattle.demands.proofs.Lemmas.Adding.{entry-kept}
 use Rattle.demands.proofs.Refusals.{leans-read, read-named}
-use Rattle.tokens.proofs.Laws.{dup-not-diff}
+use Rattle.types.proofs.Laws.{dup-not-diff}
 
 -- rule 2
 pub only-afresh : OnlyAfresh
@@ -73,7 +73,7 @@ never-written n before s h =
     (λ e. inr (pick-false _ _ (ne-eqb n 0 (λ z. omega arith)) ∙ pick-false _ _ e))
 
 -- over no rows, what leans on one meets 5
-module _ (s : Source) (text rows : List ℕ) (p : ℕ) (low : 1 ≤ p) where
+module _ (s : Source) (text : List ℕ) (rows : Table) (p : ℕ) (low : 1 ≤ p) where
   no-row : hasRow (earlier text rows 0 0) p ≡ false
   unfolding hasRow
   no-row = lt-leb p 0 (omega arith)
@@ -122,7 +122,7 @@ module _ (s : Source) (text rows : List ℕ) (p : ℕ) (low : 1 ≤ p) where
     own-bytes t c q = way-bytes _ (step-way s (earlier text rows 0 0) p high) refl t c q
 
 -- and a name is the same whatever is kept
-name-alike : (s : Source) (text rows other table : List ℕ) (used : ℕ) (c : List ℕ) → nameOf s (earlier other table 0 0) used c ≡ nameOf s (earlier text rows 0 0) used c
+name-alike : (s : Source) (text : List ℕ) (rows : Table) (other : List ℕ) (table : Table) (used : ℕ) (c : List ℕ) → nameOf s (earlier other table 0 0) used c ≡ nameOf s (earlier text rows 0 0) used c
 unfolding nameOf
 name-alike s text rows other table used c =
     name-same s s (earlier text rows 0 0) (earlier other table 0 0) used 128 1 _ (omega arith)
@@ -133,7 +133,7 @@ name-alike s text rows other table used c =
     })
 
 -- and none of the positions of a name that is read leans
-module _ (s : Source) (text rows : List ℕ) (used : ℕ) where
+module _ (s : Source) (text : List ℕ) (rows : Table) (used : ℕ) where
   onward-plain : (p : ℕ) (d x : Draft) (rest : Draft → Named) (q : ℕ) → p < q → q + d .count < p + x .count
       → ((y : Draft) → q + y .count < p + 1 + x .count → rest y ≡ named x → ⊥)
       → (st : Step) → onward s (earlier text rows 0 0) used p d st rest ≡ named x → ⊥

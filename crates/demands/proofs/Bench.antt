@@ -6,16 +6,16 @@ use mathlib.Core.List.{List, [], _∷_, _++_}
 use native.Mathlib.Omega.{arith}
 use Rattle.base.specs.Choice.{pick}
 use Rattle.base.specs.Memory.{part, written}
-use Rattle.base.specs.Same.{same}
+use Rattle.comparing.specs.Same.{same}
 use Rattle.base.specs.Every.{every, numbers}
 use Rattle.digits.specs.Digits.{low, padded, countWithin, digitCount, printed, fitsWidth, isDigit, valueFrom, valueOf}
 use Rattle.classes.specs.Classes.{isAllowed}
 use Rattle.spans.specs.Spans.{byteAt, four, fourAt, fourBytes, zeroFrom, textEnd, textAt}
 use Rattle.block.specs.Block.{spanOf, startOf, endOf, cursorOf}
-use Rattle.tokens.specs.declared.TokenType.the-variants.{Match}
-use Rattle.tokens.specs.Types.{numbersOf, typeOf, typeNumber}
+use Rattle.types.specs.declared.TokenType.the-variants.{Match}
+use Rattle.types.specs.Types.{numbersOf, typeOf, typeNumber}
 use Rattle.tokens.specs.Tokens.{bytesOf, kindOf, numberOf, widthOf, lengthOf, rowOf}
-use Rattle.kept.specs.Tables.{room, entryAt, rowAt}
+use Rattle.tables.specs.Tables.{room, entryAt, rowAt, rowRoom, putRows, allNumbers}
 use Rattle.kept.specs.Judgement.{entryText, entryRows, rowKind, rowFits, rowsFit, earlierFits}
 use Rattle.sources.specs.Source.{byteIn, fourIn, textIn}
 use Rattle.values.specs.Values.{stringStep, charStep, digitsStep, withWidth, paddedOf, paddedStep, digits0Step}
@@ -25,9 +25,10 @@ use Rattle.steps.specs.Steps.{valueStep, typedStep, stepAt}
 use Rattle.bars.specs.Bars.{carries, barred}
 use Rattle.moving.specs.Moves.{past, valuePast}
 use Rattle.names.specs.Names.{typeIn, grown, ended, printable, onward, nameFrom, nameOf}
-use Rattle.entries.specs.Outcomes.{atName}
-use Rattle.heads.specs.Heads.{dupHead, diffHead, typedHead, headOf, headPast}
-use Rattle.entries.specs.Entries.{roomFor, kept, keepOf}
+use Rattle.outcomes.specs.Outcomes.{atName}
+use Rattle.distances.specs.Distances.{dupHead, diffHead}
+use Rattle.heads.specs.Heads.{typedHead, headOf, headPast}
+use Rattle.outcomes.specs.Keeping.{roomFor, kept, keepOf}
 use Rattle.copying.specs.Copies.{dupOf}
 use Rattle.naming.specs.Naming.{namedOf, diffOf}
 use Rattle.earlier.specs.Back.{rowsOf, none, entryBack}
@@ -75,7 +76,7 @@ four-of p q r s = λ i. (p i, q i, r i, s i)
 
 -- blocks, those outside the twelve too
 computed : Hold (tokenCases ++ blockCases ++ slipCases ++ afreshCases)
-unfolding pick part written every numbers isAllowed byteAt four fourAt fourBytes zeroFrom textEnd textAt spanOf endOf cursorOf numbersOf typeOf typeNumber bytesOf kindOf numberOf widthOf lengthOf rowOf room entryAt rowAt entryText entryRows rowKind rowFits rowsFit earlierFits byteIn fourIn textIn stringStep charStep digitsStep withWidth paddedOf paddedStep digits0Step deltaStep delta0Step tokenOf hasRow hasKind rowHere deltaAt delta0At low padded countWithin digitCount printed fitsWidth matchAt valueStep carries barred typedStep stepAt past typeIn valuePast grown ended printable onward nameFrom nameOf atName dupHead diffHead typedHead headOf roomFor kept keepOf headPast dupOf namedOf diffOf rowsOf none entryBack headedOf nextOf told quick nexts left typeBytes bytesIn dirFrom curFrom inDirectory
+unfolding pick part written every numbers isAllowed byteAt four fourAt fourBytes zeroFrom textEnd textAt spanOf endOf cursorOf numbersOf typeOf typeNumber bytesOf kindOf numberOf widthOf lengthOf rowOf room entryAt rowRoom rowAt putRows allNumbers entryText entryRows rowKind rowFits rowsFit earlierFits byteIn fourIn textIn stringStep charStep digitsStep withWidth paddedOf paddedStep digits0Step deltaStep delta0Step tokenOf hasRow hasKind rowHere deltaAt delta0At low padded countWithin digitCount printed fitsWidth matchAt valueStep carries barred typedStep stepAt past typeIn valuePast grown ended printable onward nameFrom nameOf atName dupHead diffHead typedHead headOf roomFor kept keepOf headPast dupOf namedOf diffOf rowsOf none entryBack headedOf nextOf told quick nexts left typeBytes bytesIn dirFrom curFrom inDirectory
 computed = (
   first _ _ refl refl,
   (

@@ -8,10 +8,10 @@ use native.Mathlib.Omega.{arith}
 use borrow.Author.Tests.{eq-eqb, ne-eqb}
 use lib.Dec.{eqb}
 use lib.ListN.{length, replicate}
-use Rattle.base.specs.Same.{same}
+use Rattle.comparing.specs.Same.{same}
 use Rattle.base.proofs.Choice as choice
 use Rattle.base.proofs.Choice.{by-test}
-use Rattle.base.proofs.Equal.{same-equal, differ-same}
+use Rattle.comparing.proofs.Equal.{same-equal, differ-same}
 use Rattle.base.proofs.Numbers.{lt-or-ge}
 use Rattle.block.specs.declared.State.{State}
 use Rattle.block.specs.declared.Refusal.{Refusal}
@@ -19,13 +19,13 @@ use Rattle.block.specs.declared.Refusal.the-variants as refusal
 use Rattle.block.specs.declared.Opened.the-variants as opened
 use Rattle.block.specs.Block.{Opening, opening, openOf, starts, state}
 use Rattle.block.specs.Streams.{diffStream}
-use Rattle.kept.specs.Tables.{Kept, keeping}
-use Rattle.tokens.specs.Types.{Rules}
+use Rattle.tables.specs.Tables.{Kept, keeping, Table}
+use Rattle.types.specs.Types.{Rules}
 use Rattle.sources.specs.Source.{Source, source}
 use Rattle.entries.specs.declared.Answer.{Answer}
 use Rattle.entries.specs.declared.Answer.the-variants as answer
-use Rattle.entries.specs.Outcomes.{Outcome, outcome}
-use Rattle.entries.specs.Entries.{kept}
+use Rattle.outcomes.specs.Outcomes.{Outcome, outcome}
+use Rattle.outcomes.specs.Keeping.{kept}
 use Rattle.earlier.specs.Back.{none}
 use Rattle.naming.specs.Naming.{diffOf}
 use Rattle.reads.specs.Reads.{readOf}
@@ -38,9 +38,15 @@ use Rattle.claims.proofs.Laws.{cause}
 use Rattle.writing.specs.declared.WriteAnswer.{WriteAnswer}
 use Rattle.writing.specs.declared.WriteAnswer.the-variants as written
 use Rattle.writing.specs.Writes.{Writing, writeOf}
-use Rattle.answers.specs.Answers.{packed, noName, refusalNumber, openedNumber, readNumber, verdictNumber, writtenNumber, stateIn, stateOut}
-use Rattle.answers.proofs.Laws.{packed-one}
-use Rattle.calls.specs.Calls.{Opens, opens, openedState, opensOf, openCall, Reads, reads, readsOf, readCall, blockCall, claimCall, Writes, writes, writtenTotals, writesOf, writeCall}
+use Rattle.codes.specs.Codes.{packed, noName, refusalNumber, stateIn, stateOut}
+use Rattle.opencalls.specs.Calls.{openedNumber}
+use Rattle.writecalls.specs.Calls.{writtenNumber}
+use Rattle.answers.specs.Answers.{readNumber, verdictNumber}
+use Rattle.codes.proofs.Laws.{packed-one}
+use Rattle.opencalls.specs.Calls.{Opens, opens, openedState, opensOf, openCall}
+use Rattle.readcalls.specs.Calls.{Reads, reads, readsOf, readCall, blockCall}
+use Rattle.claimcalls.specs.Calls.{claimCall}
+use Rattle.writecalls.specs.Calls.{Writes, writes, writtenTotals, writesOf, writeCall}
 use Rattle.demands.specs.Runs as runs
 use Rattle.demands.specs.Runs.{Lent, lent, read, left, Keeps, Call, reading, claiming, after, run, claimed, nameAt}
 use Rattle.demands.specs.Refusals as cases
@@ -235,7 +241,7 @@ reading-stopped s m o (refuses q y) h = refl
 reading-stopped s m o (ends a b c) h = refl
 reading-stopped s m o (keeps x first rows d a b c f) h = absurd (not-stopped (m .state .names) h)
 
-pub read-call-stopped : (rules : Rules) (bytes dir cur text names rows st : List ℕ) → length st ≡ 4 → Stopped (readCall rules bytes dir cur text names rows st .number)
+pub read-call-stopped : (rules : Rules) (bytes dir cur text names : List ℕ) (rows : Table) (st : List ℕ) → length st ≡ 4 → Stopped (readCall rules bytes dir cur text names rows st .number)
     → readCall rules bytes dir cur text names rows st ≡ reads (readCall rules bytes dir cur text names rows st .number) cur text names rows st
 unfolding readCall
 read-call-stopped rules bytes dir cur text names rows st l h =
@@ -258,7 +264,7 @@ case-stops s m o (ends a b c) f = record { code = 256; value = _; is = refl; som
 case-stops s m o (keeps x first rows d a b c e) f = absurd (f (m .state .names) refl)
 
 -- and a read does where it keeps no name
-pub read-call-stops : (rules : Rules) (bytes dir cur text names rows st : List ℕ)
+pub read-call-stops : (rules : Rules) (bytes dir cur text names : List ℕ) (rows : Table) (st : List ℕ)
     → ((i : ℕ) → readOf (source rules bytes dir cur) (keeping (stateIn st) text names rows) .answer ≡ answer.Kept i → ⊥)
     → Stopped (readCall rules bytes dir cur text names rows st .number)
 unfolding readCall
@@ -298,7 +304,7 @@ block-stopped s m count st o (cases.opens-1 a) h = refl
 block-stopped s m count st o (cases.opens-12 a b) h = refl
 block-stopped s m count st o (cases.opens a b) h = absurd (not-stopped 0 h)
 
-pub block-call-stopped : (rules : Rules) (bytes dir : List ℕ) (count : ℕ) (cur text names rows st : List ℕ) → length st ≡ 4 → Stopped (openCall bytes dir count cur st .number)
+pub block-call-stopped : (rules : Rules) (bytes dir : List ℕ) (count : ℕ) (cur text names : List ℕ) (rows : Table) (st : List ℕ) → length st ≡ 4 → Stopped (openCall bytes dir count cur st .number)
     → blockCall rules bytes dir count cur text names rows st ≡ reads (openCall bytes dir count cur st .number) cur text names rows st
 unfolding blockCall blockOf openCall
 block-call-stopped rules bytes dir count cur text names rows st l h =
@@ -417,7 +423,7 @@ each-call rules bytes dir l [] r g = g []
 each-call rules bytes dir l (c ∷ cs) r g = (g [], each-call rules bytes dir l cs (callOn rules bytes dir r c) (λ x. g (c ∷ x)))
 
 -- from an opening that answers code 0, with any buffers to read into
-module _ (rules : Rules) (bytes dir : List ℕ) (count : ℕ) (cur text names rows st : List ℕ) (v : ℕ) (fresh : openCall bytes dir count cur st .number ≡ packed 0 v) where
+module _ (rules : Rules) (bytes dir : List ℕ) (count : ℕ) (cur text names : List ℕ) (rows : Table) (st : List ℕ) (v : ℕ) (fresh : openCall bytes dir count cur st .number ≡ packed 0 v) where
   abbrev start : Reads
   start = begun (openCall bytes dir count cur st) text names rows
 
@@ -506,7 +512,7 @@ module _ (rules : Rules) (bytes dir : List ℕ) (count : ℕ) (cur text names ro
       }
 
 -- C-11: a read of a name that starts afresh is rule 4 with no earlier name, whatever the tables hold
-pub afresh-call : (rules : Rules) (bytes dir cur text names rows st : List ℕ)
+pub afresh-call : (rules : Rules) (bytes dir cur text names : List ℕ) (rows : Table) (st : List ℕ)
     → Ready (source rules bytes dir cur) (keeping (stateIn st) text names rows) → (stateIn st .names ≡ stateIn st .count → ⊥) → Heads (source rules bytes dir cur) (rules .numbers .diff) diffStream 0
     → readCall rules bytes dir cur text names rows st
     ≡ readsOf (diffOf (source rules bytes dir cur) (keeping (stateIn st) text names rows) 0 (none (keeping (stateIn st) text names rows)))
@@ -517,10 +523,10 @@ afresh-call rules bytes dir cur text names rows st ready more g = ap readsOf (st
 pub one-open-call : (bytes dir : List ℕ) (count : ℕ) (cur st : List ℕ) (x y : Opens) → x ≡ openCall bytes dir count cur st → y ≡ openCall bytes dir count cur st → x ≡ y
 one-open-call bytes dir count cur st x y = one-outcome
 
-pub one-read-call : (rules : Rules) (bytes dir cur text names rows st : List ℕ) (x y : Reads) → x ≡ readCall rules bytes dir cur text names rows st → y ≡ readCall rules bytes dir cur text names rows st → x ≡ y
+pub one-read-call : (rules : Rules) (bytes dir cur text names : List ℕ) (rows : Table) (st : List ℕ) (x y : Reads) → x ≡ readCall rules bytes dir cur text names rows st → y ≡ readCall rules bytes dir cur text names rows st → x ≡ y
 one-read-call rules bytes dir cur text names rows st x y = one-outcome
 
-pub one-block-call : (rules : Rules) (bytes dir : List ℕ) (count : ℕ) (cur text names rows st : List ℕ) (x y : Reads)
+pub one-block-call : (rules : Rules) (bytes dir : List ℕ) (count : ℕ) (cur text names : List ℕ) (rows : Table) (st : List ℕ) (x y : Reads)
     → x ≡ blockCall rules bytes dir count cur text names rows st → y ≡ blockCall rules bytes dir count cur text names rows st → x ≡ y
 one-block-call rules bytes dir count cur text names rows st x y = one-outcome
 

@@ -16,17 +16,17 @@ use Rattle.block.specs.Block.{opening, openOf, state}
 use Rattle.block.specs.declared.Refusal.the-variants as refusal
 use Rattle.block.proofs.Laws.{open-sound, open-inside, accepted}
 use Rattle.words.specs.Words.{telling, Ending, done, unread, stopped, Telling}
-use Rattle.demands.specs.ByWords.{endsWith, answerAt, ByWords, EndsAt, SameName}
+use Rattle.demands.specs.ByWords.{endsWith, answerAt, ByWords, Ends, over, at, SameName}
 use Rattle.demands.proofs.Lemmas.Told.{fresh-reached, keeps-reached, by-words}
-use Rattle.kept.specs.declared.Entry.{Entry}
-use Rattle.kept.specs.Tables.{Kept, keeping, entryAt}
+use Rattle.tables.specs.declared.Entry.{Entry}
+use Rattle.tables.specs.Tables.{Kept, keeping, entryAt}
 use Rattle.kept.specs.Inside.{TextCounted}
 use Rattle.kept.proofs.Laws.{counts-text, counts-of, earlier-fits-of}
 use Rattle.kept.proofs.Later.{Later, later-same, later-then, entry-later}
 use Rattle.sources.specs.Source.{Source, source}
 use Rattle.entries.specs.declared.Answer.the-variants as answer
-use Rattle.entries.specs.Outcomes.{Outcome}
-use Rattle.entries.specs.Entries.{kept}
+use Rattle.outcomes.specs.Outcomes.{Outcome}
+use Rattle.outcomes.specs.Keeping.{kept}
 use Rattle.reads.specs.Reads.{readOf}
 use Rattle.reading.specs.Blocks.{blockOf}
 use Rattle.claims.specs.declared.Verdict.the-variants.{Refused}
@@ -43,40 +43,12 @@ use Rattle.demands.proofs.Lemmas.Keeping.{Sure, sure-right, fresh-sure,
 use Rattle.demands.proofs.Lemmas.Later.{later-adds, text-later}
 use Rattle.demands.proofs.Adds.{read-adds}
 use Rattle.demands.proofs.Untouched.{block-reads}
-use Rattle.tokens.specs.Types.{Rules}
+use Rattle.types.specs.Types.{Rules}
 
 run-sure : (rules : Rules) (bytes dir : List ℕ) (cs : List Call) (l : Lent) → Sure bytes dir l → Sure bytes dir (run rules bytes dir l cs)
 unfolding run
 run-sure rules bytes dir [] l s = s
 run-sure rules bytes dir (c ∷ cs) l s = run-sure rules bytes dir cs (after rules bytes dir l c) (after-sure rules bytes dir l c s)
-
--- at all times: the counts and cursors are sound, every kept name's tokens, printed end to end, are that name, and each reference, a distance of 1 or more (C-11), points to a lower number
-pub always-right : (rules : Rules) (bytes dir : List ℕ) (count : ℕ) (l : Lent) → Fresh bytes dir count l → (calls : List Call) → Right bytes dir (run rules bytes dir l calls)
-always-right rules bytes dir count l f calls = sure-right bytes dir (run rules bytes dir l calls) (run-sure rules bytes dir calls l (fresh-sure bytes dir count l f))
-
--- claims over tables that are right
-right-judged : (bytes dir : List ℕ) (l : Lent) → Right bytes dir l → (number : ℕ) (claim : List ℕ) → Judged l number claim
-unfolding claimed nameAt
-right-judged bytes dir l r number claim =
-    let m : Kept = l .kept in
-    let c : TextCounted (m .state) (m .text) (m .names) = counts-text m (r .counts) in
-    let a : number < m .state .names → Answerable number (m .state) (m .text) (m .names) =
-    λ h. record { counts = c; below = h; inside = r .names number h .text } in
-    record {
-      confirmed = λ h e. confirmed-of number claim (m .state) (m .text) (m .names) (a h) e;
-      only = λ q. let y = confirmed number claim (m .state) (m .text) (m .names) q in (y .0 .below, y .1);
-      denied = λ h n. denied-of number claim (m .state) (m .text) (m .names) (a h) n;
-      unread = λ h. eleven-of number claim (m .state) (m .text) (m .names) c h;
-      never-13 = (
-        λ q. thirteen number claim (m .state) (m .text) (m .names) q c,
-        λ q. let y = thirteen-at number claim (m .state) (m .text) (m .names) q in y .1 .1 (r .names number (y .1 .0) .text),
-      );
-    }
-
--- every claim at any time
-pub always-judged : (rules : Rules) (bytes dir : List ℕ) (count : ℕ) (l : Lent) → Fresh bytes dir count l → (calls : List Call)
-    → (number : ℕ) (claim : List ℕ) → Judged (run rules bytes dir l calls) number claim
-always-judged rules bytes dir count l f calls number claim = right-judged bytes dir (run rules bytes dir l calls) (always-right rules bytes dir count l f calls) number claim
 
 -- a read over what is lent keeps a name, or leaves everything as it was
 by-way : {P : Type 0} (s : Source) (m : Kept) (o : Outcome) → ReadCase s m o → ((i : ℕ) → o .answer ≡ answer.Kept i → P) → (left o ≡ lent (s .cur) m → P) → P
@@ -99,6 +71,42 @@ only-kept rules bytes dir (reading ∷ cs) l =
     (λ i e. record { names = suc (h .names); reads = next (h .names) i l _ e (h .reads) })
     (λ e. subst (λ (z : Lent). Reads rules bytes dir z (run rules bytes dir (left (read rules bytes dir l)) cs)) e h)
 only-kept rules bytes dir (claiming n b ∷ cs) l = only-kept rules bytes dir cs l
+
+-- what is kept at any time is what the words say of the block
+pub always-told : (rules : Rules) (bytes dir : List ℕ) (count : ℕ) (l : Lent) → Fresh bytes dir count l → (calls : List Call) → ByWords rules bytes dir (telling rules bytes dir count) (run rules bytes dir l calls)
+always-told rules bytes dir count l f calls =
+    by-words rules bytes dir (telling rules bytes dir count) (run rules bytes dir l calls)
+    (keeps-reached rules bytes dir (telling rules bytes dir count) _ l (run rules bytes dir l calls) (only-kept rules bytes dir calls l .reads) (fresh-reached rules bytes dir count l f (fresh-sure bytes dir count l f)))
+
+-- at all times: the counts and cursors are sound, every kept name's tokens, printed end to end, are that name, each row is the one
+-- that the words say, and each reference, a distance of 1 or more (C-11), points to a lower number
+pub always-right : (rules : Rules) (bytes dir : List ℕ) (count : ℕ) (l : Lent) → Fresh bytes dir count l → (calls : List Call) → Right rules bytes dir (telling rules bytes dir count) (run rules bytes dir l calls)
+always-right rules bytes dir count l f calls =
+    sure-right rules bytes dir (telling rules bytes dir count) (run rules bytes dir l calls) (run-sure rules bytes dir calls l (fresh-sure bytes dir count l f)) (always-told rules bytes dir count l f calls)
+
+-- claims over tables that are right
+right-judged : (rules : Rules) (bytes dir : List ℕ) (b : Telling) (l : Lent) → Right rules bytes dir b l → (number : ℕ) (claim : List ℕ) → Judged l number claim
+unfolding claimed nameAt
+right-judged rules bytes dir b l r number claim =
+    let m : Kept = l .kept in
+    let c : TextCounted (m .state) (m .text) (m .names) = counts-text m (r .counts) in
+    let a : number < m .state .names → Answerable number (m .state) (m .text) (m .names) =
+    λ h. record { counts = c; below = h; inside = r .names number h .text } in
+    record {
+      confirmed = λ h e. confirmed-of number claim (m .state) (m .text) (m .names) (a h) e;
+      only = λ q. let y = confirmed number claim (m .state) (m .text) (m .names) q in (y .0 .below, y .1);
+      denied = λ h n. denied-of number claim (m .state) (m .text) (m .names) (a h) n;
+      unread = λ h. eleven-of number claim (m .state) (m .text) (m .names) c h;
+      never-13 = (
+        λ q. thirteen number claim (m .state) (m .text) (m .names) q c,
+        λ q. let y = thirteen-at number claim (m .state) (m .text) (m .names) q in y .1 .1 (r .names number (y .1 .0) .text),
+      );
+    }
+
+-- every claim at any time
+pub always-judged : (rules : Rules) (bytes dir : List ℕ) (count : ℕ) (l : Lent) → Fresh bytes dir count l → (calls : List Call)
+    → (number : ℕ) (claim : List ℕ) → Judged (run rules bytes dir l calls) number claim
+always-judged rules bytes dir count l f calls number claim = right-judged rules bytes dir (telling rules bytes dir count) (run rules bytes dir l calls) (always-right rules bytes dir count l f calls) number claim
 
 -- the same reads, made one after another and nothing between
 pub plain-reads : (rules : Rules) (bytes dir : List ℕ) (n : ℕ) (l z : Lent) → Keeps rules bytes dir n l z → run rules bytes dir l (replicate n reading) ≡ z
@@ -131,9 +139,9 @@ module _ (rules : Rules) (bytes dir : List ℕ) where
   reads-on n k l z w (next a i x y e h) (next b j u v f g) s = reads-on a b _ z w h g s
 
   -- a name that is kept stays the same name
-  name-later : (n : ℕ) (l z : Lent) → Right bytes dir l → Keeps rules bytes dir n l z → (i : ℕ) → i < l .kept .state .names → nameAt l i ≡ nameAt z i
+  name-later : (b : Telling) (n : ℕ) (l z : Lent) → Right rules bytes dir b l → Keeps rules bytes dir n l z → (i : ℕ) → i < l .kept .state .names → nameAt l i ≡ nameAt z i
   unfolding nameAt
-  name-later n l z r k i h =
+  name-later b n l z r k i h =
       let e : Entry = entryAt (l .kept .names) i in
       let t : Later (l .kept) (z .kept) = keeps-later n l z k in
       let n : NameRight (l .kept) i = r .names i h in
@@ -151,23 +159,23 @@ unfolding left
 first-names s m count st cur e calls i h =
     let l : Lent = lent cur (keeping st (m .text) (m .names) (m .rows)) in
     let z : Lent = run (s .rules) (s .bytes) (s .dir) l calls in
-    let r : Right (s .bytes) (s .dir) z = always-right (s .rules) (s .bytes) (s .dir) count l (record { old = s .cur; state = st; opens = e; begins = refl }) calls in
+    let r : Right (s .rules) (s .bytes) (s .dir) (telling (s .rules) (s .bytes) (s .dir) count) z = always-right (s .rules) (s .bytes) (s .dir) count l (record { old = s .cur; state = st; opens = e; begins = refl }) calls in
     let b : Whole (s .rules) (s .bytes) (s .dir) l (blockOf s m count) = block-reads s m count st cur e in
     let k : Reads (s .rules) (s .bytes) (s .dir) l z = only-kept (s .rules) (s .bytes) (s .dir) calls l in
     let g : Reads (s .rules) (s .bytes) (s .dir) z (b .last) = reads-on (s .rules) (s .bytes) (s .dir) _ _ l z (b .last) (k .reads) (b .before) (λ j q. b .stops j (b .answers ∙ q)) in
     let n : z .kept .state .names + g .names ≡ b .last .kept .state .names = sym (so-many (s .rules) (s .bytes) (s .dir) _ z (b .last) (g .reads)) in
     let u : left (blockOf s m count) ≡ b .last = b .stays in (
       omega (arith, ap (λ (x : Lent). x .kept .state .names) u),
-      name-later (s .rules) (s .bytes) (s .dir) (g .names) z (b .last) r (g .reads) i h ∙ ap (λ (x : Lent). nameAt x i) (sym u),
+      name-later (s .rules) (s .bytes) (s .dir) _ (g .names) z (b .last) r (g .reads) i h ∙ ap (λ (x : Lent). nameAt x i) (sym u),
     )
 
 -- a refusal of a read over tables that are right: 10 for what is left unread, or one that the rules give for the name being read
-refusal-right : (rules : Rules) (bytes dir : List ℕ) (l : Lent) → Right bytes dir l → (q : Refusal) → Why (source rules bytes dir (l .cur)) (l .kept) q → Sane l q
-refusal-right rules bytes dir l r q (unsound a) = absurd (never (sym a ∙ open-sound bytes dir (l .cur) (r .opened)))
-refusal-right rules bytes dir l r q (uncounted a b) = absurd (never (sym b ∙ counts-of (l .kept) (r .counts)))
-refusal-right rules bytes dir l r q (outside a b c) = absurd (never (sym c ∙ open-inside bytes dir (l .cur) (r .opened)))
-refusal-right rules bytes dir l r q (unread a b c) = left-over b
-refusal-right rules bytes dir l r q (unnamed k a b c) =
+refusal-right : (rules : Rules) (bytes dir : List ℕ) (t : Telling) (l : Lent) → Right rules bytes dir t l → (q : Refusal) → Why (source rules bytes dir (l .cur)) (l .kept) q → Sane l q
+refusal-right rules bytes dir t l r q (unsound a) = absurd (never (sym a ∙ open-sound bytes dir (l .cur) (r .opened)))
+refusal-right rules bytes dir t l r q (uncounted a b) = absurd (never (sym b ∙ counts-of (l .kept) (r .counts)))
+refusal-right rules bytes dir t l r q (outside a b c) = absurd (never (sym c ∙ open-inside bytes dir (l .cur) (r .opened)))
+refusal-right rules bytes dir t l r q (unread a b c) = left-over b
+refusal-right rules bytes dir t l r q (unnamed k a b c) =
     by-reason (source rules bytes dir (l .cur)) (l .kept) k c (by-rules k)
     (λ d h f e.
     let i : ℕ = l .kept .state .names - d in
@@ -182,12 +190,6 @@ refusal-right rules bytes dir l r q (unnamed k a b c) =
 fresh-count : (bytes dir : List ℕ) (count : ℕ) (l : Lent) → Fresh bytes dir count l → l .kept .state .count ≡ count
 fresh-count bytes dir count l f = ap (λ (x : State). x .count) (f .begins ∙ accepted (length bytes) dir count (f .old) (f .opens) .state)
 
--- what is kept at any time is what the words say of the block
-pub always-told : (rules : Rules) (bytes dir : List ℕ) (count : ℕ) (l : Lent) → Fresh bytes dir count l → (calls : List Call) → ByWords rules bytes dir (telling rules bytes dir count) (run rules bytes dir l calls)
-always-told rules bytes dir count l f calls =
-    by-words rules bytes dir (telling rules bytes dir count) (run rules bytes dir l calls)
-    (keeps-reached rules bytes dir (telling rules bytes dir count) _ l (run rules bytes dir l calls) (only-kept rules bytes dir calls l .reads) (fresh-reached rules bytes dir count l f (fresh-sure bytes dir count l f)))
-
 -- two fresh starts on one block keep the same names, whatever each was lent and whatever was called
 pub same-names : (rules : Rules) (bytes dir : List ℕ) (count : ℕ) (l w : Lent) → Fresh bytes dir count l → Fresh bytes dir count w → (calls others : List Call) (i : ℕ)
     → i < run rules bytes dir l calls .kept .state .names → i < run rules bytes dir w others .kept .state .names → SameName (run rules bytes dir l calls) (run rules bytes dir w others) i
@@ -197,43 +199,52 @@ same-names rules bytes dir count l w f g calls others i h k =
     let b = always-told rules bytes dir count w g others .each i k in
     record { name = _; one = a; other = b; bytes = a .text ∙ sym (b .text) }
 
--- a read that is refused with another number than 9 is refused as the words say that the block ends
-ends-at : (k : ℕ) (x : Ending) (r n : ℕ) → endsWith k x ≡ answer.Refused (refusal.At r n) → (x ≡ stopped r) × (n ≡ k)
-unfolding endsWith
-ends-at k done r n e = let z : _≡_ {A = ℕ} 0 1 = cc in absurd (omega arith)
-ends-at k unread r n e = let z : _≡_ {A = ℕ} 0 1 = cc in absurd (omega arith)
-ends-at k (stopped q) r n e = let z : q ≡ r = cc in (ap stopped z, cc)
+-- how the words end a block is how the read that meets it is refused
+module _ (b : Telling) (z : Lent) (all : z .kept .state .names ≡ length (b .names)) where
+  ends-of : (x : Ending) → b .ending ≡ x → (q : Refusal) → endsWith (z .kept .state .names) x ≡ answer.Refused q → Ends b z q
+  unfolding endsWith
+  ends-of done e q a = let o : _≡_ {A = ℕ} 0 1 = cc in absurd (omega arith)
+  ends-of unread e q a = let w : refusal.Plain 10 ≡ q = cc in subst (Ends b z) w (over all e)
+  ends-of (stopped r) e q a =
+      let w : refusal.At r (z .kept .state .names) ≡ q = cc in
+      subst (Ends b z) w (at r (z .kept .state .names) (record { all = all; number = all; ending = e }))
 
-pub refused-told : (rules : Rules) (bytes dir : List ℕ) (b : Telling) (z : Lent) → ByWords rules bytes dir b z → (r n : ℕ) → (r ≡ 9 → ⊥) → read rules bytes dir z .answer ≡ answer.Refused (refusal.At r n) → EndsAt b z r n
+-- a read over what the words tell that is refused otherwise than with 9 is refused as they say that the block ends
+pub ends-told : (rules : Rules) (bytes dir : List ℕ) (b : Telling) (z : Lent) → ByWords rules bytes dir b z → (q : Refusal) → ((n : ℕ) → q ≡ refusal.At 9 n → ⊥)
+    → read rules bytes dir z .answer ≡ answer.Refused q → Ends b z q
 unfolding answerAt
-refused-told rules bytes dir b z t r n h e =
+ends-told rules bytes dir b z t q h e =
     let k : ℕ = z .kept .state .names in
     ⊎-elim
     (λ (a : read rules bytes dir z .answer ≡ answerAt b k).
     by-test (ltb k (length (b .names)))
-    (λ y. let w : answer.Kept k ≡ answer.Refused (refusal.At r n) = sym (pick-true _ _ y) ∙ sym a ∙ e in let x : _≡_ {A = ℕ} 0 1 = cc in absurd (omega arith))
+    (λ y. let w : answer.Kept k ≡ answer.Refused q = sym (pick-true _ _ y) ∙ sym a ∙ e in let x : _≡_ {A = ℕ} 0 1 = cc in absurd (omega arith))
     (λ y.
     let last : length (b .names) ≤ k = ltb-false _ _ y in
-    let w = ends-at k (b .ending) r n (sym (pick-false _ _ y) ∙ sym a ∙ e) in
-    record { all = omega (arith, last, t .few); number = omega (arith, last, t .few, w .1); ending = w .0 }))
+    ends-of b z (omega (arith, last, t .few)) (b .ending) refl q (sym (pick-false _ _ y) ∙ sym a ∙ e)))
     (λ (a : (k < length (b .names)) × (read rules bytes dir z .answer ≡ answer.Refused (refusal.At 9 k))).
-    let w : answer.Refused (refusal.At 9 k) ≡ answer.Refused (refusal.At r n) = sym (a .1) ∙ e in
-    let x : 9 ≡ r = cc in absurd (h (sym x)))
+    let w : answer.Refused (refusal.At 9 k) ≡ answer.Refused q = sym (a .1) ∙ e in
+    let x : q ≡ refusal.At 9 k = cc in absurd (h k x))
     (t .answers)
+
+-- after any calls from a fresh start, a read that is refused otherwise than with 9 is refused as the words say that the block ends
+pub refused-told : (rules : Rules) (bytes dir : List ℕ) (count : ℕ) (l : Lent) → Fresh bytes dir count l → (calls : List Call) (q : Refusal) → ((n : ℕ) → q ≡ refusal.At 9 n → ⊥)
+    → read rules bytes dir (run rules bytes dir l calls) .answer ≡ answer.Refused q → Ends (telling rules bytes dir count) (run rules bytes dir l calls) q
+refused-told rules bytes dir count l f calls =
+    ends-told rules bytes dir (telling rules bytes dir count) (run rules bytes dir l calls) (always-told rules bytes dir count l f calls)
 
 -- from a fresh start no read meets 1 or 13
 pub always-sane : (rules : Rules) (bytes dir : List ℕ) (count : ℕ) (l : Lent) → Fresh bytes dir count l → (calls : List Call) (q : Refusal)
     → read rules bytes dir (run rules bytes dir l calls) .answer ≡ answer.Refused q → Sane (run rules bytes dir l calls) q
 unfolding read
 always-sane rules bytes dir count l f calls q e =
-    refusal-right rules bytes dir (run rules bytes dir l calls) (always-right rules bytes dir count l f calls) q (read-why _ _ q e)
+    refusal-right rules bytes dir (telling rules bytes dir count) (run rules bytes dir l calls) (always-right rules bytes dir count l f calls) q (read-why _ _ q e)
 
 -- demand 3: start fresh on one block and make any sequence of reads and claims, refused ones too
 pub demand-3 : (rules : Rules) (bytes dir : List ℕ) (count : ℕ) (l : Lent) → Fresh bytes dir count l → (calls : List Call) → Demand3 rules bytes dir l (run rules bytes dir l calls)
 demand-3 rules bytes dir count l f calls = record {
-  right = always-right rules bytes dir count l f calls;
+  right = subst (λ (n : ℕ). Right rules bytes dir (telling rules bytes dir n) (run rules bytes dir l calls)) (sym (fresh-count bytes dir count l f)) (always-right rules bytes dir count l f calls);
   claims = always-judged rules bytes dir count l f calls;
-  told = subst (λ (n : ℕ). ByWords rules bytes dir (telling rules bytes dir n) (run rules bytes dir l calls)) (sym (fresh-count bytes dir count l f)) (always-told rules bytes dir count l f calls);
   reads = only-kept rules bytes dir calls l;
   refusals = always-sane rules bytes dir count l f calls;
 }
@@ -261,6 +272,6 @@ block-demand-3 s m count st cur e calls =
 
 -- so what it leaves is right
 pub block-right : (s : Source) (m : Kept) (count : ℕ) (st : State) (cur : List ℕ)
-    → openOf (length (s .bytes)) (s .dir) count (s .cur) ≡ opening (opened.Fresh st) cur → Right (s .bytes) (s .dir) (left (blockOf s m count))
+    → openOf (length (s .bytes)) (s .dir) count (s .cur) ≡ opening (opened.Fresh st) cur → Right (s .rules) (s .bytes) (s .dir) (telling (s .rules) (s .bytes) (s .dir) (st .count)) (left (blockOf s m count))
 unfolding run
 block-right s m count st cur e = block-demand-3 s m count st cur e [] .right

@@ -9,12 +9,12 @@ use Rattle.base.proofs.Choice.{pick-true, pick-false, by-test}
 use Rattle.block.specs.declared.Refusal.the-variants as refusal
 use Rattle.block.specs.Block.{sound, allAtEnd, startOf, endOf, cursorOf, starts, state}
 use Rattle.block.proofs.Laws.{at-end-each, each-at-end, opens-fresh, starts-cursor}
-use Rattle.kept.specs.Tables.{Kept}
+use Rattle.tables.specs.Tables.{Kept}
 use Rattle.sources.specs.Source.{Source, source}
 use Rattle.entries.specs.declared.Answer.{Answer}
 use Rattle.entries.specs.declared.Answer.the-variants as answer
-use Rattle.entries.specs.Outcomes.{Outcome, outcome, plain}
-use Rattle.entries.specs.Entries.{kept}
+use Rattle.outcomes.specs.Outcomes.{Outcome, outcome, plain}
+use Rattle.outcomes.specs.Keeping.{kept}
 use Rattle.inner.specs.Next.{nextOf}
 use Rattle.reads.specs.Reads.{readOf, goOn, readsFrom}
 use Rattle.reading.specs.Blocks.{openedOf, blockOf}

@@ -18,18 +18,19 @@ use Rattle.block.specs.declared.Refusal.the-variants as refusal
 use Rattle.block.specs.Block.{Opening, openOf, sound}
 use Rattle.block.proofs.Laws.{opens-unsound, opens-many, opens-fresh}
 use Rattle.block.specs.Streams.{dupStream, diffStream}
-use Rattle.kept.specs.Tables.{Kept}
+use Rattle.tables.specs.Tables.{Kept}
 use Rattle.kept.specs.Judgement.{earlierFits}
 use Rattle.kept.proofs.Laws.{earlier-fits-of}
-use Rattle.tokens.specs.Types.{Rules}
-use Rattle.tokens.proofs.Laws.{dup-not-diff}
+use Rattle.types.specs.Types.{Rules}
+use Rattle.types.proofs.Laws.{dup-not-diff}
 use Rattle.sources.specs.Source.{Source, Earlier}
 use Rattle.names.specs.Names.{Draft, refused}
 use Rattle.entries.specs.declared.Answer.the-variants as answer
-use Rattle.heads.specs.declared.Head.the-variants as head
-use Rattle.entries.specs.Outcomes.{Outcome, outcome, plain, atName}
-use Rattle.entries.specs.Entries.{kept, keepOf}
-use Rattle.heads.specs.Heads.{dupFits, diffFits, dupHead, diffHead, typedHead, headOf}
+use Rattle.distances.specs.declared.Head.the-variants as head
+use Rattle.outcomes.specs.Outcomes.{Outcome, outcome, plain, atName}
+use Rattle.outcomes.specs.Keeping.{kept, keepOf}
+use Rattle.distances.specs.Distances.{dupFits, diffFits, dupHead, diffHead}
+use Rattle.heads.specs.Heads.{typedHead, headOf}
 use Rattle.copying.specs.Copies.{dupOf}
 use Rattle.naming.specs.Naming.{namedOf, diffOf}
 use Rattle.earlier.specs.Back.{entryBack}

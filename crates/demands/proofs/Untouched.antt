@@ -13,18 +13,18 @@ use Rattle.block.specs.declared.Opened.the-variants as opened
 use Rattle.block.specs.declared.State.{State}
 use Rattle.block.specs.Block.{Opening, opening, openOf, sound, state}
 use Rattle.block.proofs.Laws.{Accepted, accepted}
-use Rattle.kept.specs.Tables.{Kept, keeping}
+use Rattle.tables.specs.Tables.{Kept, keeping}
 use Rattle.sources.specs.Source.{Source, source}
 use Rattle.entries.specs.declared.Answer.the-variants as answer
-use Rattle.entries.specs.Outcomes.{Outcome, outcome}
+use Rattle.outcomes.specs.Outcomes.{Outcome, outcome}
 use Rattle.reads.specs.Reads.{readOf, goOn, readsFrom}
-use Rattle.entries.specs.Entries.{kept}
+use Rattle.outcomes.specs.Keeping.{kept}
 use Rattle.reading.specs.Blocks.{openedOf, blockOf}
 use Rattle.demands.specs.Runs.{Lent, lent, read, left, none, next}
 use Rattle.demands.specs.Untouched.{Untouched, Whole}
 use Rattle.demands.specs.Refusals.{ReadCase, refuses, ends, keeps}
 use Rattle.demands.proofs.Lemmas.Ways.{read-case}
-use Rattle.tokens.specs.Types.{Rules}
+use Rattle.types.specs.Types.{Rules}
 
 refused-way : (s : Source) (m : Kept) (r : Refusal) (o : Outcome) → ReadCase s m o → o .answer ≡ answer.Refused r → Untouched s m o
 unfolding kept

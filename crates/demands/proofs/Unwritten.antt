@@ -13,7 +13,7 @@ use Rattle.nameputs.specs.NamePuts.{putsOf}
 use Rattle.laying.specs.Puts.{totalOf}
 use Rattle.writing.specs.Writes.{countable, laidOf, judgedOf, writeOf}
 use Rattle.demands.specs.Untouched.{Unwritten}
-use Rattle.tokens.specs.Types.{Rules}
+use Rattle.types.specs.Types.{Rules}
 
 laid : (rules : Rules) (names : List (List ℕ)) (dir bytes : List ℕ) → Unwritten dir bytes (laidOf rules names dir bytes)
 unfolding laidOf

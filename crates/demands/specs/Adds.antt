@@ -8,10 +8,10 @@ use Rattle.base.specs.Memory.{part}
 use Rattle.block.specs.Block.{cursorOf, state}
 use Rattle.block.specs.Open.{Open}
 use Rattle.block.specs.Streams.{dupStream, diffStream}
-use Rattle.kept.specs.declared.Entry.{Entry}
-use Rattle.kept.specs.Tables.{entrySize, rowSize, Kept, entryAt}
+use Rattle.tables.specs.declared.Entry.{Entry}
+use Rattle.tables.specs.Tables.{Table, entrySize, Kept, entryAt, rowRoom, rowAt, unusedPart}
 use Rattle.sources.specs.Source.{Source}
-use Rattle.entries.specs.Outcomes.{Outcome}
+use Rattle.outcomes.specs.Outcomes.{Outcome}
 use Rattle.earlier.specs.Back.{entryBack}
 use Rattle.claims.specs.Claims.{nameText}
 use Rattle.demands.specs.Takes.{takesFrom, headTakes}
@@ -26,6 +26,12 @@ Outside a b j = (j < a) ⊎ (b ≤ j)
 pub record Alike (before after : List ℕ) (from to : ℕ) : Type 0 where
   pub lengths : length after ≡ length before
   pub others : (j : ℕ) → Outside from to j → getD after j 0 ≡ getD before j 0
+
+-- a table of rows as it was but for the rows from one to another: the room, the other rows, and what is too short for a row
+pub record RowsAlike (before after : Table) (from to : ℕ) : Type 0 where
+  pub room : rowRoom after ≡ rowRoom before
+  pub others : (j : ℕ) → Outside from to j → rowAt after j ≡ rowAt before j
+  pub unused : unusedPart after ≡ unusedPart before
 
 -- the two kinds of names: the bytes of each, the rows it adds, what it takes from each span, and its entry.
 -- A DUP has a distance from 1 to n, is the earlier name, adds no row, takes its type and distance, and has the earlier name's rows;
@@ -54,8 +60,8 @@ pub record Adds (s : Source) (m : Kept) (number : ℕ) (o : Outcome) : Type 0 wh
   pub starts : entryAt (o .kept .names) number .start ≡ m .state .text
   pub long : entryAt (o .kept .names) number .length ≡ length name
   pub refers : Refers number (entryAt (o .kept .names) number .distance)
-  -- its rows, and no other number of that table
-  pub table : Alike (m .rows) (o .kept .rows) (rowSize * m .state .rows) (rowSize * (m .state .rows + rows))
+  -- its rows, and nothing else of that table
+  pub table : RowsAlike (m .rows) (o .kept .rows) (m .state .rows) (m .state .rows + rows)
   -- each cursor moves by the bytes that the name took from its span, and stays inside it
   pub kind : Kind s m name rows taken (entryAt (o .kept .names) number)
   pub moves : (j : ℕ) → cursorOf (o .cur) j ≡ cursorOf (s .cur) j + taken j

@@ -10,16 +10,17 @@ use Rattle.spans.specs.declared.Cursor.{Cursor}
 use Rattle.spans.specs.declared.NextByte.the-variants as byte
 use Rattle.block.specs.declared.Refusal.the-variants as refusal
 use Rattle.block.specs.Streams.{typeStream, diffStream}
-use Rattle.kept.specs.Tables.{Kept, entryAt}
-use Rattle.tokens.specs.declared.TokenType.{TokenType}
-use Rattle.tokens.specs.declared.TokenType.the-variants as type
-use Rattle.tokens.specs.Types.{typeOf}
+use Rattle.tables.specs.Tables.{Kept, entryAt, Table}
+use Rattle.types.specs.declared.TokenType.{TokenType}
+use Rattle.types.specs.declared.TokenType.the-variants as type
+use Rattle.types.specs.Types.{typeOf}
 use Rattle.sources.specs.Source.{Source, earlier, byteIn}
 use Rattle.values.specs.declared.Step.the-variants as step
 use Rattle.steps.specs.Steps.{stepAt}
 use Rattle.names.specs.Names.{nameOf}
 use Rattle.entries.specs.declared.Answer.the-variants as answer
-use Rattle.heads.specs.Heads.{dupFits, diffFits, headPast}
+use Rattle.distances.specs.Distances.{dupFits, diffFits}
+use Rattle.heads.specs.Heads.{headPast}
 use Rattle.earlier.specs.Back.{none}
 use Rattle.naming.specs.Naming.{diffOf}
 use Rattle.reads.specs.Reads.{readOf}
@@ -51,7 +52,7 @@ pub record ReadsAfresh (s : Source) (m : Kept) : Type 0 where
   -- it is read by rule 4 with no earlier name
   pub reads : readOf s m ≡ diffOf s m 0 (none m)
   -- whose tokens are the same whatever is kept
-  pub alike : (text rows : List ℕ)
+  pub alike : (text : List ℕ) (rows : Table)
       → nameOf s (none m) (m .state .text) (headPast (s .cur) diffStream) ≡ nameOf s (earlier text rows 0 0) (m .state .text) (headPast (s .cur) diffStream)
   -- a step at MATCH, DDELTA or DDELTA0 is refused with 5, whether or not a delta's byte is there; at position 128 it is 7 as in every name
   pub fives : (p b : ℕ) (c : Cursor) → 1 ≤ p → p < 128 → byteIn s p typeStream ≡ byte.Value b c → Leaning (typeOf (s .rules .numbers) b) → stepAt s (none m) p ≡ step.Refused 5

@@ -11,7 +11,7 @@ use Rattle.block.specs.declared.Refusal.the-variants as refusal
 use Rattle.block.specs.declared.Opened.{Opened}
 use Rattle.block.specs.declared.Opened.the-variants as opened
 use Rattle.block.specs.Block.{openOf, state}
-use Rattle.kept.specs.Tables.{keeping}
+use Rattle.tables.specs.Tables.{keeping, Table}
 use Rattle.sources.specs.Source.{source}
 use Rattle.entries.specs.declared.Answer.{Answer}
 use Rattle.entries.specs.declared.Answer.the-variants as answer
@@ -23,12 +23,15 @@ use Rattle.claims.specs.Claims.{claimOf}
 use Rattle.writing.specs.declared.WriteAnswer.{WriteAnswer}
 use Rattle.writing.specs.declared.WriteAnswer.the-variants as written
 use Rattle.writing.specs.Writes.{writeOf}
-use Rattle.answers.specs.Answers.{packed, noName, stateIn}
-use Rattle.calls.specs.Calls.{Opens, openCall, Reads, reads, readCall, blockCall, claimCall, writeCall}
+use Rattle.codes.specs.Codes.{packed, noName, stateIn}
+use Rattle.opencalls.specs.Calls.{Opens, openCall}
+use Rattle.readcalls.specs.Calls.{Reads, reads, readCall, blockCall}
+use Rattle.claimcalls.specs.Calls.{claimCall}
+use Rattle.writecalls.specs.Calls.{writeCall}
 use Rattle.demands.specs.Runs.{Lent, lent, nameAt, Call, reading, claiming}
 use Rattle.demands.specs.Refusals.{ByRule}
 use Rattle.demands.specs.Right.{Demand3}
-use Rattle.tokens.specs.Types.{Rules}
+use Rattle.types.specs.Types.{Rules}
 
 -- a code, the low 32 bits, other than 0: the call is refused, or it is a read that finds the block at its end
 pub record Stopped (number : ℕ) : Type 0 where
@@ -72,11 +75,11 @@ abbrev pub OpeningTold : Type 0
 OpeningTold = (bytes dir : List ℕ) (count : ℕ) (cur st : List ℕ) → NumberTells (openCall bytes dir count cur st .number) (toldOpening count) (openOf (length bytes) dir count cur .answer)
 
 abbrev pub ReadTold : Type 0
-ReadTold = (rules : Rules) (bytes dir cur text names rows st : List ℕ)
+ReadTold = (rules : Rules) (bytes dir cur text names : List ℕ) (rows : Table) (st : List ℕ)
     → NumberTells (readCall rules bytes dir cur text names rows st .number) toldRead (readOf (source rules bytes dir cur) (keeping (stateIn st) text names rows) .answer)
 
 abbrev pub BlockTold : Type 0
-BlockTold = (rules : Rules) (bytes dir : List ℕ) (count : ℕ) (cur text names rows st : List ℕ)
+BlockTold = (rules : Rules) (bytes dir : List ℕ) (count : ℕ) (cur text names : List ℕ) (rows : Table) (st : List ℕ)
     → NumberTells (blockCall rules bytes dir count cur text names rows st .number) toldRead (blockOf (source rules bytes dir cur) (keeping (stateIn st) text names rows) count .answer)
 
 abbrev pub VerdictTold : Type 0
@@ -87,7 +90,7 @@ WritingTold = (rules : Rules) (input dir bytes totals : List ℕ)
     → NumberTells (writeCall rules input dir bytes totals .number) (toldWriting (writeCall rules input dir bytes totals .totals)) (writeOf rules input dir bytes .answer)
 
 -- what opening leaves, and buffers to read into
-abbrev pub begun : Opens → List ℕ → List ℕ → List ℕ → Reads
+abbrev pub begun : Opens → List ℕ → List ℕ → Table → Reads
 begun o text names rows = reads (o .number) (o .cursors) text names rows (o .state)
 
 -- what a call left, as a read or a claim inside has it

@@ -6,6 +6,7 @@ use mathlib.Core.Logic.{_⊎_}
 use lib.Dec.{ltb}
 use lib.ListN.{length, getD}
 use Rattle.base.specs.Choice.{pick}
+use Rattle.block.specs.declared.Refusal.{Refusal}
 use Rattle.block.specs.declared.Refusal.the-variants as refusal
 use Rattle.entries.specs.declared.Answer.{Answer}
 use Rattle.entries.specs.declared.Answer.the-variants as answer
@@ -13,7 +14,7 @@ use Rattle.words.specs.Values.{Name, nobody}
 use Rattle.words.specs.Words.{Ending, done, unread, stopped, Telling}
 use Rattle.standing.specs.Stands.{Stands}
 use Rattle.demands.specs.Runs.{Lent, read, nameAt}
-use Rattle.tokens.specs.Types.{Rules}
+use Rattle.types.specs.Types.{Rules}
 
 -- what the ending answers with k names kept
 unfoldable pub endsWith : ℕ → Ending → Answer
@@ -40,6 +41,11 @@ pub record EndsAt (b : Telling) (z : Lent) (r n : ℕ) : Type 0 where
   pub all : z .kept .state .names ≡ length (b .names)
   pub number : n ≡ length (b .names)
   pub ending : b .ending ≡ stopped r
+
+-- how a read's refusal other than 9 is the block's own ending: with all names kept, bytes are left over (10), or the next name is refused
+pub data Ends (b : Telling) (z : Lent) : Refusal → Type 0 where
+  over : z .kept .state .names ≡ length (b .names) → b .ending ≡ unread → Ends b z (refusal.Plain 10)
+  at : (r n : ℕ) → EndsAt b z r n → Ends b z (refusal.At r n)
 
 -- two memories hold one name
 pub record SameName (z w : Lent) (i : ℕ) : Type 0 where

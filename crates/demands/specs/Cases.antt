@@ -12,12 +12,12 @@ use Rattle.block.specs.declared.Opened.{Opened}
 use Rattle.block.specs.declared.Opened.the-variants as opened
 use Rattle.block.specs.Streams.{typeStream}
 use Rattle.block.specs.Block.{spanOf, startOf, endOf, Opening, openOf}
-use Rattle.tokens.specs.declared.TokenType.{TokenType}
-use Rattle.tokens.specs.Types.{typeNumber, draftNumbers, Rules, rulesOf, draftPlain}
-use Rattle.kept.specs.Tables.{Kept, keeping}
+use Rattle.types.specs.declared.TokenType.{TokenType}
+use Rattle.types.specs.Types.{typeNumber, draftNumbers, Rules, rulesOf, draftPlain}
+use Rattle.tables.specs.Tables.{inRows, Kept, keeping}
 use Rattle.entries.specs.declared.Answer.{Answer}
 use Rattle.entries.specs.declared.Answer.the-variants as answer
-use Rattle.entries.specs.Outcomes.{Outcome}
+use Rattle.outcomes.specs.Outcomes.{Outcome}
 use Rattle.writing.specs.declared.WriteAnswer.{WriteAnswer}
 use Rattle.writing.specs.Writes.{Writing, writeOf}
 use Rattle.demands.specs.Runs.{lent, read, run, reading}
@@ -83,7 +83,7 @@ pub record Buffers : Type 0 where
 
 -- the buffers with nothing kept in them yet
 abbrev pub empty : Buffers → State → Kept
-empty b s = keeping s (replicate (b .text) 0) (replicate (b .names) 0) (replicate (b .rows) 0)
+empty b s = keeping s (replicate (b .text) 0) (replicate (b .names) 0) (inRows (replicate (b .rows) 0))
 
 -- what reading came to: the answer, and the text that is kept
 pub record Told : Type 0 where

@@ -3,7 +3,7 @@ use Prim.Native.Nat.{ℕ, _<_}
 use mathlib.Core.Path.{_≡_}
 use mathlib.Core.List.{List}
 use Rattle.block.specs.Block.{endOf, cursorOf, state}
-use Rattle.kept.specs.Tables.{Kept, keeping}
+use Rattle.tables.specs.Tables.{Kept, keeping}
 
 -- every cursor is at its end
 abbrev pub AtEnd : List ℕ → List ℕ → Type 0

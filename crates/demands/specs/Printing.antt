@@ -5,8 +5,8 @@ use lib.Dec.{eqb}
 use Rattle.base.specs.Choice.{pick}
 use Rattle.base.specs.Memory.{part}
 use Rattle.digits.specs.Digits.{printed, padded}
-use Rattle.kept.specs.declared.Row.{Row}
-use Rattle.kept.specs.Tables.{rowAt}
+use Rattle.tables.specs.declared.Row.{Row}
+use Rattle.tables.specs.Tables.{Table, rowAt}
 
 -- the row's text in the kept text
 unfoldable pub rowText : List ℕ → Row → List ℕ
@@ -20,6 +20,6 @@ rowPrints text r =
     (rowText text r))
 
 -- so many rows from one on, printed end to end
-unfoldable pub rowsPrint : List ℕ → List ℕ → ℕ → ℕ → List ℕ
+unfoldable pub rowsPrint : List ℕ → Table → ℕ → ℕ → List ℕ
 rowsPrint text rows i zero = []
 rowsPrint text rows i (suc n) = rowPrints text (rowAt rows i) ++ rowsPrint text rows (i + 1) n

@@ -15,15 +15,15 @@ use Rattle.block.specs.declared.Opened.the-variants as opened
 use Rattle.block.specs.Block.{Opening, opening, sound, starts, state, allInside, allAtEnd}
 use Rattle.block.specs.Open.{Open}
 use Rattle.block.specs.Streams.{typeStream, dupStream, diffStream}
-use Rattle.kept.specs.Tables.{Kept}
+use Rattle.tables.specs.Tables.{Kept}
 use Rattle.kept.specs.Judgement.{counts, earlierFits}
 use Rattle.kept.specs.Inside.{Counted, EntryInside}
-use Rattle.tokens.specs.Types.{Rules}
+use Rattle.types.specs.Types.{Rules}
 use Rattle.sources.specs.Source.{Source, Earlier, byteIn, fourIn}
 use Rattle.names.specs.Names.{Draft, draft, named, nameOf}
 use Rattle.entries.specs.declared.Answer.the-variants as answer
-use Rattle.entries.specs.Outcomes.{Outcome, outcome}
-use Rattle.entries.specs.Entries.{roomFor, kept}
+use Rattle.outcomes.specs.Outcomes.{Outcome, outcome}
+use Rattle.outcomes.specs.Keeping.{roomFor, kept}
 use Rattle.heads.specs.Heads.{headPast}
 use Rattle.earlier.specs.Back.{rowsOf, none, entryBack}
 use Rattle.laying.specs.Puts.{totalOf, directoryOf, bytesOf}

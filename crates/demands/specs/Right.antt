@@ -7,7 +7,7 @@ use lib.ListN.{getD}
 use Rattle.block.specs.declared.Refusal.{Refusal}
 use Rattle.block.specs.declared.Refusal.the-variants as refusal
 use Rattle.block.specs.Open.{Open}
-use Rattle.kept.specs.Tables.{Kept, entryAt, rowAt}
+use Rattle.tables.specs.Tables.{Kept, entryAt, rowAt, Table}
 use Rattle.kept.specs.Inside.{Counted, TextInside, RowsInside, RowInside}
 use Rattle.entries.specs.declared.Answer.the-variants as answer
 use Rattle.claims.specs.declared.Verdict.the-variants.{Confirmed, Denied, Refused}
@@ -16,20 +16,21 @@ use Rattle.demands.specs.Printing.{rowText, rowPrints, rowsPrint}
 use Rattle.demands.specs.ByWords.{ByWords}
 use Rattle.demands.specs.Refusals.{ByRule}
 use Rattle.demands.specs.Runs.{Lent, Reads, read, claimed, nameAt}
-use Rattle.tokens.specs.Types.{Rules}
-use Rattle.words.specs.Words.{telling}
+use Rattle.types.specs.Types.{Rules}
+use Rattle.words.specs.Words.{Telling, telling}
 
 -- a row: its kind and values are in order, its text is inside the kept text and is what the row prints
-pub record RowRight (used : ℕ) (text rows : List ℕ) (i : ℕ) : Type 0 where
+pub record RowRight (used : ℕ) (text : List ℕ) (rows : Table) (i : ℕ) : Type 0 where
   pub fits : RowInside used (rowAt rows i)
   pub prints : rowPrints text (rowAt rows i) ≡ rowText text (rowAt rows i)
 
--- the name that added a row: the row is one of its rows, and the row's text is inside its text
+-- the name that added a row: the row is one of its rows and lies behind those of every lower name, and the row's text is inside its text
 pub record Home (m : Kept) (j : ℕ) : Type 0 where
   pub name : ℕ
   pub kept : name < m .state .names
   pub from : entryAt (m .names) name .first ≤ j
   pub to : j < entryAt (m .names) name .first + entryAt (m .names) name .rows
+  pub adds : (i : ℕ) → i < name → entryAt (m .names) i .first + entryAt (m .names) i .rows ≤ j
   pub starts : entryAt (m .names) name .start ≤ rowAt (m .rows) j .start
   pub ends : rowAt (m .rows) j .start + rowAt (m .rows) j .length ≤ entryAt (m .names) name .start + entryAt (m .names) name .length
 
@@ -47,13 +48,16 @@ pub record NameRight (m : Kept) (i : ℕ) : Type 0 where
   pub prints : rowsPrint (m .text) (m .rows) (entryAt (m .names) i .first) (entryAt (m .names) i .rows) ≡ nameText (m .text) (entryAt (m .names) i)
   pub refers : Refers i (entryAt (m .names) i .distance)
 
--- all that is kept, and the cursors
-pub record Right (bytes dir : List ℕ) (l : Lent) : Type 0 where
+-- all that is kept, and the cursors, of a block that says b
+pub record Right (rules : Rules) (bytes dir : List ℕ) (b : Telling) (l : Lent) : Type 0 where
   pub opened : Open bytes dir (l .cur)
   pub counts : Counted (l .kept)
   pub rows : (i : ℕ) → i < l .kept .state .rows → RowRight (l .kept .state .text) (l .kept .text) (l .kept .rows) i
   pub homes : (i : ℕ) → i < l .kept .state .rows → Home (l .kept) i
   pub names : (i : ℕ) → i < l .kept .state .names → NameRight (l .kept) i
+  -- the names are the first of those that b says, each with its text, its distance and every row itself, not only what the rows print;
+  -- a read answers as b does, or 9
+  pub told : ByWords rules bytes dir b l
 
 -- a claim: on a name already read it is confirmed if its bytes are all of that name's bytes and nothing else, denied otherwise;
 -- on a later name it is refused as not yet read
@@ -71,12 +75,11 @@ pub data Sane (l : Lent) : Refusal → Type 0 where
 
 -- all of demand 3, for a memory z that came from a fresh start l
 pub record Demand3 (rules : Rules) (bytes dir : List ℕ) (l z : Lent) : Type 0 where
-  -- every kept name's tokens, printed end to end, are that name; each reference, a distance of 1 or more (C-11), points to a lower number
-  pub right : Right bytes dir z
+  -- every kept name's tokens, printed end to end, are that name, and its rows are those that the words say; each reference, a distance of
+  -- 1 or more (C-11), points to a lower number; a read answers as the words do, or 9
+  pub right : Right rules bytes dir (telling rules bytes dir (l .kept .state .count)) z
   -- every claim is answered by the name's bytes, or refused as not yet read
   pub claims : (number : ℕ) (claim : List ℕ) → Judged z number claim
-  -- the names kept are the first of those that the words say of the block, each with its text, its distance and its rows; a read answers as the words do, or 9
-  pub told : ByWords rules bytes dir (telling rules bytes dir (l .kept .state .count)) z
   -- what is kept is what as many reads in a row keep, whatever was claimed or refused in between
   pub reads : Reads rules bytes dir l z
   -- no read is refused for what is kept

@@ -6,14 +6,14 @@ use lib.ListN.{length}
 use Rattle.block.specs.declared.Opened.the-variants as opened
 use Rattle.block.specs.declared.State.{State}
 use Rattle.block.specs.Block.{openOf, opening}
-use Rattle.kept.specs.Tables.{Kept, entryAt}
+use Rattle.tables.specs.Tables.{Kept, entryAt}
 use Rattle.sources.specs.Source.{source}
 use Rattle.entries.specs.declared.Answer.the-variants as answer
-use Rattle.entries.specs.Outcomes.{Outcome}
+use Rattle.outcomes.specs.Outcomes.{Outcome}
 use Rattle.reads.specs.Reads.{readOf}
 use Rattle.claims.specs.declared.Verdict.{Verdict}
 use Rattle.claims.specs.Claims.{nameText, claimOf}
-use Rattle.tokens.specs.Types.{Rules}
+use Rattle.types.specs.Types.{Rules}
 
 -- the memory that calls hand on: the cursors, and the state with the text buffer and both tables
 pub record Lent : Type 0 where

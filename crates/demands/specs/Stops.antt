@@ -12,10 +12,10 @@ use Rattle.spans.specs.declared.NextByte.the-variants as byte
 use Rattle.spans.specs.declared.NextFour.the-variants as four
 use Rattle.spans.specs.declared.NextText.the-variants as text
 use Rattle.block.specs.Streams.{typeStream, stringStream, charStream, digits0Stream, dzlenStream, digitsStream, ddeltaStream, ddelta0Stream}
-use Rattle.tokens.specs.declared.TokenType.{TokenType}
-use Rattle.tokens.specs.declared.TokenType.the-variants as type
+use Rattle.types.specs.declared.TokenType.{TokenType}
+use Rattle.types.specs.declared.TokenType.the-variants as type
 use Rattle.tokens.specs.declared.Token.{Token}
-use Rattle.tokens.specs.Types.{typeOf}
+use Rattle.types.specs.Types.{typeOf}
 use Rattle.tokens.specs.Tokens.{bytesOf}
 use Rattle.sources.specs.Source.{Source, Earlier, byteIn, fourIn, textIn}
 use Rattle.values.specs.declared.Step.the-variants as step

@@ -6,13 +6,13 @@ use Rattle.block.specs.declared.Refusal.{Refusal}
 use Rattle.block.specs.declared.Refusal.the-variants as refusal
 use Rattle.entries.specs.declared.Answer.{Answer}
 use Rattle.entries.specs.declared.Answer.the-variants as answer
-use Rattle.entries.specs.Outcomes.{Outcome}
+use Rattle.outcomes.specs.Outcomes.{Outcome}
 use Rattle.claims.specs.declared.Verdict.{Verdict}
 use Rattle.claims.specs.declared.Verdict.the-variants as verdict
 use Rattle.demands.specs.Runs.{Lent, left, read, claimed, nameAt, Call, reading, claiming}
 use Rattle.demands.specs.Right.{Sane, Demand3}
 use Rattle.demands.specs.Done.{AtEnd}
-use Rattle.tokens.specs.Types.{Rules}
+use Rattle.types.specs.Types.{Rules}
 
 -- each call was handed the memory that the one before left, and its outcome meets its contract
 pub data Seen (rules : Rules) (bytes dir : List ℕ) : Lent → List Call → Lent → Type 0 where

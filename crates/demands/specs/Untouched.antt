@@ -3,14 +3,14 @@ use Prim.Native.Nat.{ℕ}
 use mathlib.Core.Path.{_≡_}
 use mathlib.Core.List.{List}
 use Rattle.block.specs.declared.Refusal.{Refusal}
-use Rattle.kept.specs.Tables.{Kept}
+use Rattle.tables.specs.Tables.{Kept}
 use Rattle.sources.specs.Source.{Source}
 use Rattle.entries.specs.declared.Answer.the-variants as answer
-use Rattle.entries.specs.Outcomes.{Outcome}
+use Rattle.outcomes.specs.Outcomes.{Outcome}
 use Rattle.writing.specs.declared.WriteAnswer.the-variants.{Refused}
 use Rattle.writing.specs.Writes.{Writing}
 use Rattle.demands.specs.Runs.{Lent, read, left, Keeps}
-use Rattle.tokens.specs.Types.{Rules}
+use Rattle.types.specs.Types.{Rules}
 
 -- the cursors, the state and all buffers are as they were
 pub record Untouched (s : Source) (m : Kept) (o : Outcome) : Type 0 where

@@ -7,9 +7,9 @@ use native.Mathlib.Omega.{arith}
 use lib.ListN.{length}
 use Rattle.base.proofs.Choice.{took, left}
 use Rattle.block.specs.declared.State.{State}
-use Rattle.tokens.specs.Types.{Rules}
-use Rattle.kept.specs.declared.Entry.{Entry}
-use Rattle.kept.specs.Tables.{entrySize, rowSize, keeping, entryAt}
+use Rattle.types.specs.Types.{Rules}
+use Rattle.tables.specs.declared.Entry.{Entry}
+use Rattle.tables.specs.Tables.{entrySize, keeping, entryAt, Table, rowRoom}
 use Rattle.kept.specs.Judgement.{earlierFits}
 use Rattle.kept.specs.Inside.{Counted}
 use Rattle.kept.proofs.Laws.{earlier, earlier-text}
@@ -23,14 +23,14 @@ use Rattle.earlier.specs.Fits.{Known}
 use Rattle.earlier.specs.Back.{rowsOf, entryBack}
 use Rattle.earlier.proofs.Leaning.{back-entry}
 use Rattle.entries.specs.declared.Reading.{Reading}
-use Rattle.entries.specs.Outcomes.{Outcome, outcome, refusing}
-use Rattle.entries.proofs.Entries.{refused-at}
+use Rattle.outcomes.specs.Outcomes.{Outcome, outcome, refusing}
+use Rattle.outcomes.proofs.Keeping.{refused-at}
 use Rattle.copying.specs.Copies.{dupOf}
 use Rattle.dupdiff.specs.Judged.{dupJudged}
 
 -- an earlier name, as the judgement found it
-module _ (st : State) (text names rows : List ℕ) (i : ℕ) (c : Counted (keeping st text names rows)) (near : i < st .names) where
-  pub back-asks : (entrySize * i + entrySize ≤ length names) × (rowSize * st .rows ≤ length rows)
+module _ (st : State) (text names : List ℕ) (rows : Table) (i : ℕ) (c : Counted (keeping st text names rows)) (near : i < st .names) where
+  pub back-asks : (entrySize * i + entrySize ≤ length names) × (st .rows ≤ rowRoom rows)
   back-asks = (omega (arith, c .entries), c .rowsUsed)
 
   pub back-fits : {r : Bool} {t : Bool} → r ≡ earlierFits (keeping st [] names rows) i → r ≡ t → earlierFits (keeping st text names rows) i ≡ t
@@ -57,7 +57,7 @@ module _ (st : State) (text names rows : List ℕ) (i : ℕ) (c : Counted (keepi
   pub back-text : earlierFits (keeping st text names rows) i ≡ true → {e : Entry} → e ≡ entryAt names i → inside.TextInside st e
   back-text h {e} q = rw q (back-inside h .text)
 
-module _ (rules : Rules) (bytes dir cur text names rows : List ℕ) (st : State) (d : ℕ) where
+module _ (rules : Rules) (bytes dir cur text names : List ℕ) (rows : Table) (st : State) (d : ℕ) where
   -- it is the one so far back
   module _ {i : ℕ} where
     far-fits : i ≡ st .names - d → {t : Bool} → earlierFits (keeping st text names rows) i ≡ t → earlierFits (keeping st text names rows) (st .names - d) ≡ t

@@ -9,8 +9,8 @@ use lib.Dec.{eqb}
 use Rattle.base.specs.Choice.{pick}
 use Rattle.base.proofs.Choice.{took, left, pick-holds}
 use Rattle.block.specs.declared.State.{State}
-use Rattle.tokens.specs.Types.{Rules}
-use Rattle.kept.specs.Tables.{keeping, entryAt}
+use Rattle.types.specs.Types.{Rules}
+use Rattle.tables.specs.Tables.{keeping, entryAt, Table}
 use Rattle.kept.specs.Judgement.{earlierFits}
 use Rattle.kept.specs.Inside.{Counted}
 use Rattle.kept.proofs.Laws.{earlier-text}
@@ -24,24 +24,24 @@ use Rattle.earlier.specs.Fits.{AllFit, Known}
 use Rattle.earlier.specs.Back.{none, rowsOf, entryBack, backOf}
 use Rattle.earlier.proofs.Leaning.{back-entry}
 use Rattle.entries.specs.declared.Reading.{Reading}
-use Rattle.entries.specs.Outcomes.{Outcome, outcome, refusing, atName}
-use Rattle.entries.proofs.Entries.{refused-at}
+use Rattle.outcomes.specs.Outcomes.{Outcome, outcome, refusing, atName}
+use Rattle.outcomes.proofs.Keeping.{refused-at}
 use Rattle.naming.specs.Naming.{diffOf}
 use Rattle.naming.proofs.Walking.{none-spelt}
 use Rattle.dupdiff.specs.Judged.{diffJudged}
 use Rattle.dupdiff.proofs.Earlier.{back-rows, back-spelt}
 
 -- what is known to fit, fits whatever the text is
-pub all-fit : (st : State) (text names rows : List ℕ) {known : Bool} → Known known (keeping st text names rows) → known ≡ true → AllFit (keeping st [] names rows)
+pub all-fit : (st : State) (text names : List ℕ) (rows : Table) {known : Bool} → Known known (keeping st text names rows) → known ≡ true → AllFit (keeping st [] names rows)
 all-fit st text names rows k q i l = earlier-text st [] text names rows i ∙ k q .0 i l
 
-module _ (text rows : List ℕ) (st : State) (known : Bool) where
+module _ (text : List ℕ) (rows : Table) (st : State) (known : Bool) where
   -- what DIFF requires of its rows
   Leant : Back → Type 0
   Leant (back.Rows f n) = (Rows (st .text) (earlier text rows f n) × (f + n ≤ st .rows)) × Repeats known (earlier text rows f n)
   Leant back.Outside = Unit
 
-module _ (rules : Rules) (bytes dir cur text names rows : List ℕ) (st : State) (d : ℕ) where
+module _ (rules : Rules) (bytes dir cur text names : List ℕ) (rows : Table) (st : State) (d : ℕ) where
   -- what the kept text is doesn't matter
   same-back : backOf (keeping st [] names rows) d ≡ backOf (keeping st text names rows) d
   unfolding backOf entryBack

@@ -2,11 +2,11 @@
 use Prim.Native.Nat.{ℕ, _-_}
 use lib.Dec.{eqb}
 use Rattle.base.specs.Choice.{pick}
-use Rattle.kept.specs.Tables.{Kept}
+use Rattle.tables.specs.Tables.{Kept}
 use Rattle.kept.specs.Judgement.{earlierFits}
 use Rattle.sources.specs.Source.{Source}
 use Rattle.earlier.specs.Back.{rowsOf, none, entryBack}
-use Rattle.entries.specs.Outcomes.{Outcome, atName}
+use Rattle.outcomes.specs.Outcomes.{Outcome, atName}
 use Rattle.naming.specs.Naming.{diffOf}
 use Rattle.copying.specs.Copies.{dupOf}
 

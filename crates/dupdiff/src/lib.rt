@@ -4,12 +4,12 @@ ghost use mathlib.Core.List.{List};
 ghost use Prim.Native.Nat.{ℕ, _≤_};
 ghost use lib.ListN.{length};
 ghost use Rattle.block.specs.Open.{Open};
-ghost use Rattle.kept.specs.Tables.{keeping, tablesLent};
+ghost use Rattle.tables.specs.Tables.{keeping, tablesLent, inRows};
 ghost use Rattle.kept.specs.Inside.{Counted};
-ghost use Rattle.tokens.specs.Types.{Rules, rulesOf};
+ghost use Rattle.types.specs.Types.{Rules, rulesOf};
 ghost use Rattle.sources.specs.Source.{source, blockLent};
 ghost use Rattle.earlier.specs.Fits.{Known};
-ghost use Rattle.entries.specs.Outcomes.{leaves};
+ghost use Rattle.outcomes.specs.Outcomes.{leaves};
 ghost use Rattle.heads.specs.Headed.{Passable, Headed};
 ghost use Rattle.copying.specs.Copies.{leavesRows};
 ghost use Rattle.dupdiff.specs.Judged.{dupJudged, diffJudged};
@@ -19,7 +19,6 @@ use block::Setting;
 use block::State;
 use earlier::Back;
 use entries::Reading;
-use kept::tables;
 use spans::Distance;
 
 // DUP, with the earlier name judged or known to fit.
@@ -32,10 +31,10 @@ pub fn dup(
     state: State,
     distance: Distance,
 ) -> Reading
-    requires { ⌜ Counted (keeping state (now text) (now entries) (now rows)) ⌝ }
+    requires { ⌜ Counted (keeping state (now text) (now entries) (inRows (now rows))) ⌝ }
     requires { ⌜ (1 ≤ distance .0) × (distance .0 ≤ state .names) ⌝ }
     requires { ⌜ (length (now cursors) ≡ 1290) × Passable (now cursors) dupStream ⌝ }
-    requires { ⌜ Known known (keeping state (now text) (now entries) (now rows)) ⌝ }
+    requires { ⌜ Known known (keeping state (now text) (now entries) (inRows (now rows))) ⌝ }
     ensures { λ r. ⌜ ((rules : Rules) (b d : List ℕ) → leavesRows r cursors text entries rows ≡ dupJudged (source rules b d (lent cursors)) (tablesLent state text entries rows) (distance .0)) ⌝ }
 {
     let back = state.names - distance.0;
@@ -43,7 +42,7 @@ pub fn dup(
         let e = tables::entry_at(entries, back);
         copying::copied(cursors, text, entries, rows, state, distance, e)
     } else {
-        entries::refuse(13, state)
+        outcomes::refuse(13, state)
     }
 }
 
@@ -61,9 +60,9 @@ pub fn diff(
     distance: Distance,
 ) -> Reading
     requires { ⌜ Open (now bytes) (now dir) (now cursors) ⌝ }
-    requires { ⌜ Counted (keeping state (now text) (now entries) (now rows)) ⌝ }
+    requires { ⌜ Counted (keeping state (now text) (now entries) (inRows (now rows))) ⌝ }
     requires { ⌜ Headed (source (rulesOf set) (now bytes) (now dir) (now cursors)) diffStream (distance .0) (state .names) ⌝ }
-    requires { ⌜ Known known (keeping state (now text) (now entries) (now rows)) ⌝ }
+    requires { ⌜ Known known (keeping state (now text) (now entries) (inRows (now rows))) ⌝ }
     ensures { λ r. ⌜ leaves r cursors text entries rows ≡ diffJudged (blockLent set bytes dir cursors) (tablesLent state text entries rows) (distance .0) ⌝ }
 {
     match earlier::leans(known, state, entries, rows, distance) {
@@ -81,6 +80,6 @@ pub fn diff(
             first,
             count,
         ),
-        Back::Outside => entries::refuse(13, state),
+        Back::Outside => outcomes::refuse(13, state),
     }
 }

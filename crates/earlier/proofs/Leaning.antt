@@ -8,8 +8,8 @@ use borrow.Author.Tests.{eq-eqb, ne-eqb}
 use Rattle.base.specs.Choice.{pick}
 use Rattle.base.proofs.Choice.{took, left}
 use Rattle.block.specs.declared.State.{State}
-use Rattle.kept.specs.declared.Entry.{Entry}
-use Rattle.kept.specs.Tables.{Kept, keeping, entryAt}
+use Rattle.tables.specs.declared.Entry.{Entry}
+use Rattle.tables.specs.Tables.{Kept, keeping, entryAt, Table}
 use Rattle.kept.specs.Judgement.{earlierFits}
 use Rattle.earlier.specs.Back.{entryBack, backOf}
 use Rattle.earlier.specs.declared.Back.the-variants as back
@@ -20,7 +20,7 @@ unfolding entryBack
 back-entry m d = ap (entryAt (m .names)) (omega arith)
 
 -- in a contract's direction
-module _ (st : State) (names rows : List ℕ) (d : ℕ) where
+module _ (st : State) (names : List ℕ) (rows : Table) (d : ℕ) where
   pub leans-none : d ≡ 0 → back.Rows 0 0 ≡ backOf (keeping st [] names rows) d
   unfolding backOf pick
   leans-none z = rw (eq-eqb d 0 z)

@@ -2,8 +2,8 @@
 use Prim.Native.Nat.{ℕ, _-_}
 use lib.Dec.{eqb}
 use Rattle.base.specs.Choice.{pick}
-use Rattle.kept.specs.declared.Entry.{Entry}
-use Rattle.kept.specs.Tables.{Kept, entryAt}
+use Rattle.tables.specs.declared.Entry.{Entry}
+use Rattle.tables.specs.Tables.{Kept, entryAt}
 use Rattle.kept.specs.Judgement.{earlierFits}
 use Rattle.sources.specs.Source.{Earlier, earlier}
 use Rattle.earlier.specs.declared.Back.{Back}

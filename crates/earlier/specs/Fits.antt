@@ -2,7 +2,7 @@
 use Prim.Native.Nat.{ℕ, _<_}
 use mathlib.Core.Path.{_≡_}
 use mathlib.Core.Bool.{Bool, true}
-use Rattle.kept.specs.Tables.{Kept, entryAt}
+use Rattle.tables.specs.Tables.{Kept, entryAt}
 use Rattle.kept.specs.Judgement.{earlierFits}
 use Rattle.repeating.specs.Repeats.{RowsSpelt}
 use Rattle.earlier.specs.Back.{rowsOf}

@@ -3,15 +3,13 @@ ghost use mathlib.Core.Path.{_≡_};
 ghost use Prim.Native.Nat.{_+_, _*_, _^_, _≤_, _<_};
 ghost use lib.ListN.{length};
 ghost use Rattle.base.specs.Memory.{written};
-ghost use Rattle.kept.specs.Tables.{entrySize, tablesLent};
-ghost use Rattle.entries.specs.Outcomes.{refusingPlain, refusing};
+ghost use Rattle.tables.specs.Tables.{entrySize, tablesLent};
 ghost use Rattle.entries.specs.Entries.{roomOf, entryOf, keepingName};
 ghost use Rattle.base.specs.Lent.{lent, left};
 use block::Refusal;
 use block::State;
-use kept::Entry;
-use kept::tables;
 use spans::Distance;
+use tables::Entry;
 
 // A read keeps a name and answers its number, or finds the block at its end, or refuses.
 pub enum Answer {
@@ -24,26 +22,6 @@ pub enum Answer {
 pub struct Reading {
     pub answer: Answer,
     pub state: State,
-}
-
-// A refusal that carries the number of the name being read.
-pub fn refuse(number: u32, state: State) -> Reading
-    ensures { λ r. ⌜ r ≡ refusing state number ⌝ }
-{
-    Reading {
-        answer: Answer::Refused(Refusal::At(number, state.names)),
-        state: state,
-    }
-}
-
-// A refusal that carries no name.
-pub fn refuse_plain(number: u32, state: State) -> Reading
-    ensures { λ r. ⌜ r ≡ refusingPlain state number ⌝ }
-{
-    Reading {
-        answer: Answer::Refused(Refusal::Plain(number)),
-        state: state,
-    }
 }
 
 // Refusal 9 is given where this is false.

@@ -7,7 +7,7 @@ use native.Mathlib.Omega.{arith}
 use borrow.Author.Tests.{le-leb}
 use lib.Dec.{leb}
 use lib.ListN.{length}
-use Rattle.tokens.specs.Types.{Rules}
+use Rattle.types.specs.Types.{Rules}
 use Rattle.laying.specs.declared.Pass.the-variants.{Total, Sizes, Fill}
 use Rattle.laying.specs.Puts.{Put, startIn, tableOf, totalOf, directoryOf, bytesOf}
 use Rattle.laying.specs.Passes.{World, world, runOf, Roomy, offsetIn, placesOf, cleared}

@@ -5,7 +5,7 @@ use mathlib.Core.Bool.{true}
 use mathlib.Core.List.{List}
 use lib.ListN.{length}
 use Rattle.base.specs.Lent.{Buffer, lent, left}
-use Rattle.tokens.specs.Types.{Rules}
+use Rattle.types.specs.Types.{Rules}
 use Rattle.inputs.specs.declared.Judged.the-variants.{Fine}
 use Rattle.inputs.specs.Inputs.{namesOf, ended, judgedFrom}
 use Rattle.laying.specs.Puts.{Put, totalOf, directoryOf, bytesOf}

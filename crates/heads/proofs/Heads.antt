@@ -1,14 +1,13 @@
 -- Position 0, way by way, in a contract's direction; and what a head tells.
 use Prim.Native.Nat.{ℕ, _+_, _*_, _^_, _≤_}
 use mathlib.Core.Path.{_≡_, refl, sym, ap, _∙_}
-use mathlib.Core.Bool.{true, false}
 use mathlib.Core.List.{List}
 use native.Mathlib.Omega.{arith}
-use borrow.Author.Tests.{eq-eqb, ne-eqb, leb-true}
-use lib.Dec.{leb, eqb}
+use borrow.Author.Tests.{eq-eqb, ne-eqb}
+use lib.Dec.{eqb}
 use lib.ListN.{set}
 use Rattle.base.specs.Choice.{pick}
-use Rattle.base.proofs.Choice.{took, left, pick-true, pick-false, by-test, both-true}
+use Rattle.base.proofs.Choice.{took, left, pick-true, pick-false, by-test}
 use Rattle.base.specs.Every.{Below}
 use Rattle.spans.specs.declared.Cursor.{Cursor}
 use Rattle.spans.specs.declared.Distance.{Distance}
@@ -20,42 +19,19 @@ use Rattle.block.specs.Block.{spanOf, endOf, cursorOf}
 use Rattle.block.specs.Open.{Open}
 use Rattle.block.proofs.Laws.{span-below, span-stream, cursor-set-other, open-set}
 use Rattle.block.specs.Streams.{typeStream, dupStream, diffStream}
-use Rattle.tokens.specs.Types.{Rules}
-use Rattle.tokens.proofs.Laws.{dup-not-diff}
+use Rattle.types.specs.Types.{Rules}
+use Rattle.types.proofs.Laws.{dup-not-diff}
 use Rattle.sources.specs.Source.{Source, source, byteIn}
 use Rattle.moving.specs.Moves.{past}
 use Rattle.names.proofs.Cursors.{byte-reach, four-reach}
 use Rattle.moving.proofs.Moves.{past-later}
 use Rattle.names.proofs.Frames.{SameFrom}
-use Rattle.heads.specs.declared.Head.{Head}
-use Rattle.heads.specs.declared.Head.the-variants as head
+use Rattle.distances.specs.declared.Head.{Head}
+use Rattle.distances.specs.declared.Head.the-variants as head
+use Rattle.distances.specs.Distances.{dupHead, diffHead}
+use Rattle.distances.proofs.Distances.{never-dup, never-diff, dup-said, diff-said, dup-none, diff-none, diff-no-dup, dup-no-diff}
 use Rattle.heads.specs.Headed.{Headed, Passable}
-use Rattle.heads.specs.Heads.{dupFits, diffFits, dupHead, diffHead, distanceIn, typedHead, headOf, headPast}
-
-module _ (n : ℕ) {d : ℕ} {c : Cursor} {found : NextFour} (q : found ≡ four.Value d c) where
-  pub dup-near : dupFits d n ≡ true → head.Dup (record { 0 = d }) ≡ dupHead n found
-  unfolding dupHead
-  dup-near h = rw q (took _ _ h refl)
-
-  pub dup-far : dupFits d n ≡ false → head.Refused 4 ≡ dupHead n found
-  unfolding dupHead
-  dup-far h = rw q (left _ _ h refl)
-
-  pub diff-near : diffFits d n ≡ true → head.Diff (record { 0 = d }) ≡ diffHead n found
-  unfolding diffHead
-  diff-near h = rw q (took _ _ h refl)
-
-  pub diff-far : diffFits d n ≡ false → head.Refused 4 ≡ diffHead n found
-  unfolding diffHead
-  diff-far h = rw (q, pick-false _ _ h)
-
-pub dup-short : (n : ℕ) {found : NextFour} → found ≡ four.Short → head.Refused 2 ≡ dupHead n found
-unfolding dupHead
-dup-short n q = rw q
-
-pub diff-short : (n : ℕ) {found : NextFour} → found ≡ four.Short → head.Refused 2 ≡ diffHead n found
-unfolding diffHead
-diff-short n q = rw q
+use Rattle.heads.specs.Heads.{distanceIn, typedHead, headOf, headPast}
 
 module _ (s : Source) (n : ℕ) where
   pub head-short : byteIn s 0 0 ≡ byte.Short → head.Refused 2 ≡ headOf s n
@@ -91,60 +67,14 @@ pub head-same : (cur : List ℕ) (i : ℕ) → i ≤ 9 → SameFrom 1 (headPast 
 unfolding headPast
 head-same cur i h j k = past-later (past cur (spanOf 0 0) 1) 0 i 4 j h (omega arith) ∙ past-later cur 0 0 1 j (omega arith) (omega arith)
 
-never-dup : {r : ℕ} {d : Distance} → head.Refused r ≡ head.Dup d → ⊥
-never-dup q = let z : _≡_ {A = ℕ} 0 1 = cc in omega arith
-
-never-diff : {r : ℕ} {d : Distance} → head.Refused r ≡ head.Diff d → ⊥
-never-diff q = let z : _≡_ {A = ℕ} 0 1 = cc in omega arith
-
-never-both : {a b : Distance} → head.Dup a ≡ head.Diff b → ⊥
-never-both q = let z : _≡_ {A = ℕ} 0 1 = cc in omega arith
-
-dup-within : (d n : ℕ) → dupFits d n ≡ true → (1 ≤ d) × (d ≤ n)
-dup-within d n q = let b = both-true (leb 1 d) (leb d n) q in (leb-true 1 d (b .0), leb-true d n (b .1))
-
 module _ (s : Source) (n : ℕ) (d : Distance) where
   dup-four : (f : NextFour) → distanceIn s dupStream ≡ f → dupHead n f ≡ head.Dup d → ((1 ≤ d .0) × (d .0 ≤ n)) × (cursorOf (s .cur) (spanOf 0 dupStream) + 4 ≤ endOf (s .dir) (spanOf 0 dupStream))
-  unfolding dupHead
-  dup-four (four.Value v c) q r =
-      by-test (dupFits v n)
-      (λ y.
-      let w = sym (pick-true (head.Dup (record { 0 = v })) (head.Refused 4) y) ∙ r in
-      let e : record { 0 = v } ≡ d = cc in
-      let k : v ≡ d .0 = ap (λ (x : Distance). x .0) e in
-      let b = dup-within v n y in
-      ((omega arith, omega arith), four-reach s 0 dupStream q .1 .high))
-      (λ y. absurd (never-dup (sym (pick-false (head.Dup (record { 0 = v })) (head.Refused 4) y) ∙ r)))
-  dup-four four.Short q r = absurd (never-dup r)
+  dup-four (four.Value v c) q r = (dup-said n d v c r, four-reach s 0 dupStream q .1 .high)
+  dup-four four.Short q r = absurd (dup-none n d r)
 
   diff-four : (f : NextFour) → distanceIn s diffStream ≡ f → diffHead n f ≡ head.Diff d → (d .0 ≤ n) × (cursorOf (s .cur) (spanOf 0 diffStream) + 4 ≤ endOf (s .dir) (spanOf 0 diffStream))
-  unfolding diffHead
-  diff-four (four.Value v c) q r =
-      by-test (diffFits v n)
-      (λ y.
-      let w = sym (pick-true (head.Diff (record { 0 = v })) (head.Refused 4) y) ∙ r in
-      let e : record { 0 = v } ≡ d = cc in
-      let k : v ≡ d .0 = ap (λ (x : Distance). x .0) e in
-      let b = leb-true v n y in
-      (omega arith, four-reach s 0 diffStream q .1 .high))
-      (λ y. absurd (never-diff (sym (pick-false (head.Diff (record { 0 = v })) (head.Refused 4) y) ∙ r)))
-  diff-four four.Short q r = absurd (never-diff r)
-
-  diff-no-dup : (f : NextFour) → diffHead n f ≡ head.Dup d → ⊥
-  unfolding diffHead
-  diff-no-dup (four.Value v c) r =
-      by-test (diffFits v n)
-      (λ y. never-both (sym r ∙ pick-true (head.Diff (record { 0 = v })) (head.Refused 4) y))
-      (λ y. never-dup (sym (pick-false (head.Diff (record { 0 = v })) (head.Refused 4) y) ∙ r))
-  diff-no-dup four.Short r = never-dup r
-
-  dup-no-diff : (f : NextFour) → dupHead n f ≡ head.Diff d → ⊥
-  unfolding dupHead
-  dup-no-diff (four.Value v c) r =
-      by-test (dupFits v n)
-      (λ y. never-both (sym (pick-true (head.Dup (record { 0 = v })) (head.Refused 4) y) ∙ r))
-      (λ y. never-diff (sym (pick-false (head.Dup (record { 0 = v })) (head.Refused 4) y) ∙ r))
-  dup-no-diff four.Short r = never-diff r
+  diff-four (four.Value v c) q r = (diff-said n d v c r, four-reach s 0 diffStream q .1 .high)
+  diff-four four.Short q r = absurd (diff-none n d r)
 
   typed-dup : (b : NextByte) → byteIn s 0 typeStream ≡ b → typedHead s n b ≡ head.Dup d → (1 ≤ d .0) × Headed s dupStream (d .0) n
   unfolding typedHead
@@ -158,7 +88,7 @@ module _ (s : Source) (n : ℕ) (d : Distance) where
       (w .0 .0, record { near = w .0 .1; typed = byte-reach s 0 0 q .1 .high; four = w .1 }))
       (λ a.
       by-test (eqb t (s .rules .numbers .diff))
-      (λ b. absurd (diff-no-dup (distanceIn s diffStream) (sym (pick-true y (head.Refused 3) b) ∙ sym (pick-false x z a) ∙ r)))
+      (λ b. absurd (diff-no-dup n d (distanceIn s diffStream) (sym (pick-true y (head.Refused 3) b) ∙ sym (pick-false x z a) ∙ r)))
       (λ b. absurd (never-dup (sym (pick-false y (head.Refused 3) b) ∙ sym (pick-false x z a) ∙ r))))
   typed-dup byte.Short q r = absurd (never-dup r)
 
@@ -169,7 +99,7 @@ module _ (s : Source) (n : ℕ) (d : Distance) where
       let y = diffHead n (distanceIn s diffStream) in
       let z = pick (eqb t (s .rules .numbers .diff)) y (head.Refused 3) in
       by-test (eqb t (s .rules .numbers .dup))
-      (λ a. absurd (dup-no-diff (distanceIn s dupStream) (sym (pick-true x z a) ∙ r)))
+      (λ a. absurd (dup-no-diff n d (distanceIn s dupStream) (sym (pick-true x z a) ∙ r)))
       (λ a.
       by-test (eqb t (s .rules .numbers .diff))
       (λ b.

@@ -10,16 +10,17 @@ use Rattle.spans.specs.declared.Distance.{Distance}
 use Rattle.block.specs.declared.State.{State}
 use Rattle.block.specs.Block.{allAtEnd}
 use Rattle.block.specs.declared.Refusal.the-variants as refusal
-use Rattle.tokens.specs.Types.{Rules}
-use Rattle.kept.specs.Tables.{keeping}
+use Rattle.types.specs.Types.{Rules}
+use Rattle.tables.specs.Tables.{keeping, Table}
 use Rattle.sources.specs.Source.{source}
 use Rattle.entries.specs.declared.Reading.{Reading}
 use Rattle.entries.specs.declared.Answer.{Answer}
 use Rattle.entries.specs.declared.Answer.the-variants as answer
-use Rattle.entries.specs.Outcomes.{Outcome, outcome, reading, finishing, refusing, plain}
-use Rattle.entries.proofs.Entries.{refused-at}
-use Rattle.heads.specs.declared.Head.{Head}
-use Rattle.heads.specs.declared.Head.the-variants as head
+use Rattle.entries.specs.Entries.{reading}
+use Rattle.outcomes.specs.Outcomes.{Outcome, outcome, finishing, refusing, plain}
+use Rattle.outcomes.proofs.Keeping.{refused-at}
+use Rattle.distances.specs.declared.Head.{Head}
+use Rattle.distances.specs.declared.Head.the-variants as head
 use Rattle.heads.specs.Heads.{headOf}
 use Rattle.dupdiff.specs.Judged.{dupJudged, diffJudged}
 use Rattle.inner.specs.Next.{headedOf, nextOf}
@@ -32,7 +33,7 @@ pub finish-short : (st : State) {b : Bool} → b ≡ false → reading (answer.R
 unfolding finishing
 finish-short st h = ap (λ (x : Answer). reading x st) (left _ _ h refl)
 
-module _ (rules : Rules) (bytes dir cur text names rows : List ℕ) (st : State) where
+module _ (rules : Rules) (bytes dir cur text names : List ℕ) (rows : Table) (st : State) where
   finished-is : (b : Bool) {r : Reading} → r ≡ finishing st b
       → outcome (r .answer) cur (keeping (r .state) text names rows) ≡ pick b (outcome answer.Done cur (keeping st text names rows)) (plain (source rules bytes dir cur) (keeping st text names rows) 10)
   unfolding finishing plain pick
@@ -62,4 +63,4 @@ module _ (rules : Rules) (bytes dir cur text names rows : List ℕ) (st : State)
     pub next-refused : {k : ℕ} → h ≡ head.Refused k → {r : Reading} → r ≡ refusing st k
         → outcome (r .answer) cur (keeping (r .state) text names rows) ≡ nextOf (source rules bytes dir cur) (keeping st text names rows)
     unfolding headedOf
-    next-refused {k} e q = on (rw e (refused-at rules bytes dir cur text names rows st k q))
+    next-refused {k} e q = on (rw (e, refused-at rules bytes dir cur text names rows st k q))

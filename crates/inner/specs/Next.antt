@@ -2,12 +2,12 @@
 use lib.Dec.{eqb}
 use Rattle.base.specs.Choice.{pick}
 use Rattle.block.specs.Block.{allAtEnd}
-use Rattle.kept.specs.Tables.{Kept}
+use Rattle.tables.specs.Tables.{Kept}
 use Rattle.sources.specs.Source.{Source}
 use Rattle.entries.specs.declared.Answer.the-variants as answer
-use Rattle.entries.specs.Outcomes.{Outcome, outcome, plain, atName}
-use Rattle.heads.specs.declared.Head.{Head}
-use Rattle.heads.specs.declared.Head.the-variants as head
+use Rattle.outcomes.specs.Outcomes.{Outcome, outcome, plain, atName}
+use Rattle.distances.specs.declared.Head.{Head}
+use Rattle.distances.specs.declared.Head.the-variants as head
 use Rattle.heads.specs.Heads.{headOf}
 use Rattle.dupdiff.specs.Judged.{dupJudged, diffJudged}
 

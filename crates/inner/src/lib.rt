@@ -4,20 +4,19 @@ ghost use mathlib.Core.Path.{_≡_};
 ghost use lib.ListN.{length};
 ghost use Rattle.block.specs.Open.{Open};
 ghost use Rattle.block.specs.Block.{allAtEnd};
-ghost use Rattle.kept.specs.Tables.{keeping, tablesLent};
+ghost use Rattle.tables.specs.Tables.{keeping, tablesLent, inRows};
 ghost use Rattle.kept.specs.Inside.{Counted};
 ghost use Rattle.sources.specs.Source.{blockLent};
 ghost use Rattle.earlier.specs.Fits.{Known};
-ghost use Rattle.entries.specs.Outcomes.{finishing, leaves};
+ghost use Rattle.outcomes.specs.Outcomes.{finishing, leaves};
 ghost use Rattle.inner.specs.Next.{nextOf};
 ghost use Rattle.base.specs.Lent.{lent};
 use block::Refusal;
 use block::Setting;
 use block::State;
+use distances::Head;
 use entries::Answer;
 use entries::Reading;
-use heads::Head;
-use heads::heading;
 
 // With all names read.
 fn finish(dir: &[u32], cursors: &[u32], state: State) -> Reading
@@ -49,15 +48,15 @@ pub fn next(
     state: State,
 ) -> Reading
     requires { ⌜ Open (now bytes) (now dir) (now cursors) ⌝ }
-    requires { ⌜ Counted (keeping state (now text) (now entries) (now rows)) ⌝ }
-    requires { ⌜ Known known (keeping state (now text) (now entries) (now rows)) ⌝ }
+    requires { ⌜ Counted (keeping state (now text) (now entries) (inRows (now rows))) ⌝ }
+    requires { ⌜ Known known (keeping state (now text) (now entries) (inRows (now rows))) ⌝ }
     ensures { λ r. ⌜ leaves r cursors text entries rows ≡ nextOf (blockLent set bytes dir cursors) (tablesLent state text entries rows) ⌝ }
 {
     let k = state.names;
     if k == state.count {
         return finish(dir, cursors, state);
     }
-    match heading::head(set, bytes, dir, cursors, k) {
+    match heads::head(set, bytes, dir, cursors, k) {
         Head::Dup(d) => dupdiff::dup(known, cursors, text, entries, rows, state, d),
         Head::Diff(d) => dupdiff::diff(
             set,
@@ -71,6 +70,6 @@ pub fn next(
             state,
             d,
         ),
-        Head::Refused(r) => entries::refuse(r, state),
+        Head::Refused(r) => outcomes::refuse(r, state),
     }
 }

@@ -10,12 +10,13 @@ use Rattle.base.proofs.Every.{every-same}
 use Rattle.base.proofs.Memory.{below-written, within-written}
 use Rattle.base.proofs.Holding.{Holds, holds-at}
 use Rattle.block.specs.declared.State.{State}
-use Rattle.kept.specs.declared.Entry.{Entry}
-use Rattle.kept.specs.declared.Row.{Row}
-use Rattle.kept.specs.Tables.{Kept, entrySize, rowSize, entryAt, rowAt, entryNumbers, rowNumbers}
+use Rattle.tables.specs.declared.Entry.{Entry}
+use Rattle.tables.specs.declared.Row.{Row}
+use Rattle.tables.specs.Tables.{Table, Kept, entrySize, entryAt, rowAt, entryNumbers}
 use Rattle.kept.specs.Judgement.{rowFits, rowsFit}
 use Rattle.kept.specs.Inside.{RowInside, EntryInside, Earlier}
 use Rattle.kept.proofs.Laws.{row-more}
+use Rattle.tables.proofs.Rows.{SameRows}
 
 -- two tables have the same first n numbers
 abbrev pub Alike : List ℕ → List ℕ → ℕ → Type 0
@@ -32,23 +33,11 @@ entry-alike a b n alike i h =
       alike (entrySize * i + 4) (omega arith),
     )
 
-module _ (a b : List ℕ) (n : ℕ) (alike : Alike a b (rowSize * n)) where
-  pub row-alike : (i : ℕ) → i < n → rowAt a i ≡ rowAt b i
-  unfolding rowAt
-  row-alike i h =
-      rw (
-        alike (rowSize * i) (omega arith),
-        alike (rowSize * i + 1) (omega arith),
-        alike (rowSize * i + 2) (omega arith),
-        alike (rowSize * i + 3) (omega arith),
-        alike (rowSize * i + 4) (omega arith),
-      )
-
-  pub rows-alike : (used first many : ℕ) → first + many ≤ n → rowsFit used a first many ≡ rowsFit used b first many
-  unfolding rowsFit
-  rows-alike used first many h =
-      every-same (λ (j : ℕ). rowFits used (rowAt a j)) (λ (j : ℕ). rowFits used (rowAt b j)) many first
-      (λ j k l. ap (rowFits used) (row-alike j (omega arith)))
+pub rows-alike : (a b : Table) (n : ℕ) → SameRows a b n → (used first many : ℕ) → first + many ≤ n → rowsFit used a first many ≡ rowsFit used b first many
+unfolding rowsFit
+rows-alike a b n alike used first many h =
+    every-same (λ (j : ℕ). rowFits used (rowAt a j)) (λ (j : ℕ). rowFits used (rowAt b j)) many first
+    (λ j k l. ap (rowFits used) (alike j (omega arith)))
 
 -- a write behind them leaves the first n numbers
 pub alike-written : (d : List ℕ) (at : ℕ) (s : List ℕ) (n : ℕ) → n ≤ at → at ≤ length d → Alike (written d at s) d n
@@ -72,14 +61,6 @@ entry-written d n s i j room is fits =
     let number = number-written d (entrySize * n) s (entrySize * i) (entrySize * j) entrySize room (omega arith) fits in
     rw (first (omega arith), number 1 (omega arith), number 2 (omega arith), number 3 (omega arith), number 4 (omega arith))
 
-pub row-written : (d : List ℕ) (n : ℕ) (s : List ℕ) (i j : ℕ) → rowSize * n ≤ length d → i ≡ n + j → rowSize * j + rowSize ≤ length s
-    → rowAt (written d (rowSize * n) s) i ≡ rowAt s j
-unfolding rowAt
-row-written d n s i j room is fits =
-    let first = first-written d (rowSize * n) s (rowSize * i) (rowSize * j) rowSize room (omega arith) fits in
-    let number = number-written d (rowSize * n) s (rowSize * i) (rowSize * j) rowSize room (omega arith) fits in
-    rw (first (omega arith), number 1 (omega arith), number 2 (omega arith), number 3 (omega arith), number 4 (omega arith))
-
 pub one-entry : (e : Entry) → entryAt (entryNumbers e) 0 ≡ e
 unfolding entryAt
 one-entry e = refl
@@ -88,21 +69,15 @@ one-entry e = refl
 first-holds : (table : List ℕ) (at a : ℕ) (s : List ℕ) → Holds table at (a ∷ s) → getD table at 0 ≡ a
 first-holds table at a s h = simp add-zero at (holds-at table at (a ∷ s) h 0 (omega arith))
 
--- where an entry's numbers stand is that entry, and so with a row's
+-- where an entry's numbers stand is that entry
 pub entry-holds : (table : List ℕ) (i : ℕ) (e : Entry) → Holds table (entrySize * i) (entryNumbers e) → entryAt table i ≡ e
 unfolding entryAt
 entry-holds table i e h =
     let number = holds-at table (entrySize * i) (entryNumbers e) h in
     rw (first-holds table (entrySize * i) _ _ h, number 1 (omega arith), number 2 (omega arith), number 3 (omega arith), number 4 (omega arith))
 
-pub row-holds : (table : List ℕ) (i : ℕ) (r : Row) → Holds table (rowSize * i) (rowNumbers r) → rowAt table i ≡ r
-unfolding rowAt
-row-holds table i r h =
-    let number = holds-at table (rowSize * i) (rowNumbers r) h in
-    rw (first-holds table (rowSize * i) _ _ h, number 1 (omega arith), number 2 (omega arith), number 3 (omega arith), number 4 (omega arith))
-
 -- what pointed inside still does when more is kept behind it
-pub entry-more : (s more : State) (a b : List ℕ) → s .text ≤ more .text → s .rows ≤ more .rows → Alike a b (rowSize * s .rows)
+pub entry-more : (s more : State) (a b : Table) → s .text ≤ more .text → s .rows ≤ more .rows → SameRows a b (s .rows)
     → (e : Entry) → EntryInside s a e → EntryInside more b e
 entry-more s more a b h k alike e t =
     let x = t .text in
@@ -112,11 +87,11 @@ entry-more s more a b h k alike e t =
       rows = record { some = y .some; most = y .most; ends = omega arith };
       each =
           λ j l u.
-          subst (λ (v : Row). RowInside (more .text) v) (row-alike a b (s .rows) alike j (omega arith)) (row-more (s .text) (more .text) h (rowAt a j) (t .each j l u));
+          subst (λ (v : Row). RowInside (more .text) v) (alike j (omega arith)) (row-more (s .text) (more .text) h (rowAt a j) (t .each j l u));
     }
 
 pub earlier-more : (m more : Kept) (n : ℕ) → m .state .text ≤ more .state .text → m .state .rows ≤ more .state .rows
-    → Alike (m .names) (more .names) (entrySize * n) → Alike (m .rows) (more .rows) (rowSize * m .state .rows) → (i : ℕ) → i < n → Earlier m i → Earlier more i
+    → Alike (m .names) (more .names) (entrySize * n) → SameRows (m .rows) (more .rows) (m .state .rows) → (i : ℕ) → i < n → Earlier m i → Earlier more i
 earlier-more m more n h k names rows i l t =
     subst (λ (e : Entry). EntryInside (more .state) (more .rows) e) (entry-alike (m .names) (more .names) n names i l)
     (entry-more (m .state) (more .state) (m .rows) (more .rows) h k rows (entryAt (m .names) i) t)

@@ -1,11 +1,10 @@
 -- What the judgement tells, and what makes it pass.
-use Prim.Native.Nat.{ℕ, _+_, _*_, _≤_, _<_}
-use mathlib.Core.Path.{_≡_, refl, sym, subst, _∙_}
+use Prim.Native.Nat.{ℕ, _+_, _≤_, _<_}
+use mathlib.Core.Path.{_≡_, refl, sym, _∙_}
 use mathlib.Core.Bool.{true}
 use mathlib.Core.List.{List}
 use mathlib.Core.Logic.{inl, inr, ⊎-elim}
 use native.Mathlib.Omega.{arith}
-use native.Mathlib.Nat.{mul-comm, le-div-iff-mul-le}
 use borrow.Author.Tests.{leb-true, le-leb, eqb-true, eqb-false, eq-eqb, ne-eqb}
 use lib.Dec.{leb, eqb}
 use lib.ListN.{length}
@@ -15,21 +14,12 @@ use Rattle.base.proofs.Every.{every-each, each-every}
 use Rattle.digits.specs.Digits.{fitsWidth}
 use Rattle.block.specs.declared.State.{State}
 use Rattle.block.specs.Block.{state}
-use Rattle.kept.specs.declared.Entry.{Entry}
-use Rattle.kept.specs.declared.Row.{Row}
-use Rattle.kept.specs.Tables.{Kept, entrySize, rowSize, keeping, room, rowAt}
+use Rattle.tables.specs.declared.Entry.{Entry}
+use Rattle.tables.specs.declared.Row.{Row}
+use Rattle.tables.specs.Tables.{Table, Kept, entrySize, keeping, room, rowRoom, rowAt}
 use Rattle.kept.specs.Judgement.{textCounts, rowCounts, counts, entryText, entryRows, rowKind, rowFits, rowsFit, earlierFits}
+use Rattle.tables.proofs.Room.{room-holds, room-of}
 use Rattle.kept.specs.Inside.{TextCounted, RowCounted, Counted, TextInside, RowsInside, KindInside, RowInside, Earlier}
-
--- how many of a size a table has room for
-module _ (size : ℕ) (some : 0 < size) (t : List ℕ) (k : ℕ) where
-  pub room-holds : k ≤ room size t → size * k ≤ length t
-  unfolding room
-  room-holds h = subst (λ (n : ℕ). n ≤ length t) (mul-comm k size) (le-div-iff-mul-le {k = size} {x = k} {y = length t} some .0 h)
-
-  pub room-of : size * k ≤ length t → k ≤ room size t
-  unfolding room
-  room-of h = le-div-iff-mul-le {k = size} {x = k} {y = length t} some .1 (subst (λ (n : ℕ). n ≤ length t) (mul-comm size k) h)
 
 module _ (s : State) (text names : List ℕ) where
   pub text-counted : textCounts s (length text) (room entrySize names) ≡ true → TextCounted s text names
@@ -56,16 +46,16 @@ module _ (s : State) (text names : List ℕ) where
       (both-of (le-leb _ _ (t .used))
       (le-leb _ _ (t .most)))))
 
-module _ (s : State) (rows : List ℕ) where
-  pub row-counted : rowCounts s (room rowSize rows) ≡ true → RowCounted s rows
+module _ (s : State) (rows : Table) where
+  pub row-counted : rowCounts s (rowRoom rows) ≡ true → RowCounted s rows
   unfolding rowCounts
   row-counted e =
       let a = both-true _ _ e in
-      record { rowsUsed = room-holds rowSize (omega arith) _ _ (leb-true _ _ (a .0)); rowsMost = leb-true _ _ (a .1) }
+      record { rowsUsed = leb-true _ _ (a .0); rowsMost = leb-true _ _ (a .1) }
 
-  pub row-counts-of : RowCounted s rows → rowCounts s (room rowSize rows) ≡ true
+  pub row-counts-of : RowCounted s rows → rowCounts s (rowRoom rows) ≡ true
   unfolding rowCounts
-  row-counts-of t = both-of (le-leb _ _ (room-of rowSize (omega arith) _ _ (t .rowsUsed))) (le-leb _ _ (t .rowsMost))
+  row-counts-of t = both-of (le-leb _ _ (t .rowsUsed)) (le-leb _ _ (t .rowsMost))
 
 module _ (m : Kept) where
   pub counted : counts m ≡ true → Counted m
@@ -94,7 +84,7 @@ module _ (m : Kept) where
       (row-counts-of (m .state) (m .rows) (record { rowsUsed = c .rowsUsed; rowsMost = c .rowsMost }))
 
 -- nothing is kept yet
-pub fresh-counted : (count : ℕ) (text names rows : List ℕ) → count ≤ 65536 → Counted (keeping (state count 0 0 0) text names rows)
+pub fresh-counted : (count : ℕ) (text names : List ℕ) (rows : Table) → count ≤ 65536 → Counted (keeping (state count 0 0 0) text names rows)
 fresh-counted count text names rows h = record {
   kept = omega arith;
   limit = h;
@@ -184,7 +174,7 @@ module _ (used : ℕ) (r : Row) where
 pub row-more : (used more : ℕ) → used ≤ more → (r : Row) → RowInside used r → RowInside more r
 row-more used more h r t = record { ends = let l : r .start + r .length ≤ used = t .ends in omega arith; kind = t .kind }
 
-module _ (used : ℕ) (rows : List ℕ) (n i : ℕ) where
+module _ (used : ℕ) (rows : Table) (n i : ℕ) where
   pub rows-each : rowsFit used rows i n ≡ true → (j : ℕ) → i ≤ j → j < i + n → rowFits used (rowAt rows j) ≡ true
   unfolding rowsFit
   rows-each t j h k = every-each (λ (l : ℕ). rowFits used (rowAt rows l)) n i j t h k
@@ -213,7 +203,7 @@ module _ (m : Kept) (i : ℕ) where
       (each-rows _ _ _ _ (λ j h k. row-fits-of _ _ (t .each j h k))))
 
 -- the bytes of the text don't matter to the judgement of an earlier name
-pub earlier-text : (s : State) (text other names rows : List ℕ) (i : ℕ)
+pub earlier-text : (s : State) (text other names : List ℕ) (rows : Table) (i : ℕ)
     → earlierFits (keeping s text names rows) i ≡ earlierFits (keeping s other names rows) i
 unfolding earlierFits
 earlier-text s text other names rows i = refl

@@ -2,19 +2,18 @@
 use Prim.Native.Nat.{ℕ, suc, _+_}
 use mathlib.Core.Path.{_≡_, sym, _∙_}
 use mathlib.Core.Bool.{Bool, true, false, _&&_}
-use mathlib.Core.List.{List}
 use Rattle.base.specs.Choice.{both}
 use Rattle.base.proofs.Choice.{both-left, both-none, both-both, and-both, pick-true}
 use Rattle.base.proofs.Every.{every-turn, every-done}
-use Rattle.kept.specs.declared.Entry.{Entry}
-use Rattle.kept.specs.Tables.{Kept, entryAt, rowAt}
+use Rattle.tables.specs.declared.Entry.{Entry}
+use Rattle.tables.specs.Tables.{Table, Kept, entryAt, rowAt}
 use Rattle.kept.specs.Judgement.{entryText, entryRows, rowFits, rowsFit, earlierFits}
 
 -- the loop carries "so far and the rest from here is the whole"
-pub rows-start : (used : ℕ) (rows : List ℕ) (i n many : ℕ) → n ≡ many → both true (rowsFit used rows i n) ≡ rowsFit used rows i many
+pub rows-start : (used : ℕ) (rows : Table) (i n many : ℕ) → n ≡ many → both true (rowsFit used rows i n) ≡ rowsFit used rows i many
 rows-start used rows i n many e = both-none _ ∙ rw e
 
-module _ (used : ℕ) (rows : List ℕ) (i n : ℕ) (ok all : Bool) (inv : both ok (rowsFit used rows i n) ≡ all) where
+module _ (used : ℕ) (rows : Table) (i n : ℕ) (ok all : Bool) (inv : both ok (rowsFit used rows i n) ≡ all) where
   pub rows-turn : {next : Bool} (m : ℕ) → n ≡ suc m → next ≡ both ok (rowFits used (rowAt rows i)) → both next (rowsFit used rows (i + 1) m) ≡ all
   unfolding rowsFit
   rows-turn m e q = every-turn (λ (j : ℕ). rowFits used (rowAt rows j)) i n ok all inv m e q

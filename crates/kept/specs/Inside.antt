@@ -7,9 +7,9 @@ use mathlib.Core.Path.{_≡_}
 use lib.ListN.{length}
 use Rattle.digits.specs.Digits.{fitsWidth}
 use Rattle.block.specs.declared.State.{State}
-use Rattle.kept.specs.declared.Entry.{Entry}
-use Rattle.kept.specs.declared.Row.{Row}
-use Rattle.kept.specs.Tables.{Kept, entrySize, rowSize, entryAt, rowAt}
+use Rattle.tables.specs.declared.Entry.{Entry}
+use Rattle.tables.specs.declared.Row.{Row}
+use Rattle.tables.specs.Tables.{Table, Kept, entrySize, rowRoom, entryAt, rowAt}
 
 -- textCounts, of a text buffer and a table of names
 pub record TextCounted (s : State) (text names : List ℕ) : Type 0 where
@@ -20,8 +20,8 @@ pub record TextCounted (s : State) (text names : List ℕ) : Type 0 where
   pub most : s .text ≤ 255 * s .names
 
 -- rowCounts, of a table of rows
-pub record RowCounted (s : State) (rows : List ℕ) : Type 0 where
-  pub rowsUsed : rowSize * s .rows ≤ length rows
+pub record RowCounted (s : State) (rows : Table) : Type 0 where
+  pub rowsUsed : s .rows ≤ rowRoom rows
   pub rowsMost : s .rows ≤ 127 * s .names
 
 -- counts
@@ -31,7 +31,7 @@ pub record Counted (m : Kept) : Type 0 where
   pub entries : entrySize * m .state .names ≤ length (m .names)
   pub used : m .state .text ≤ length (m .text)
   pub most : m .state .text ≤ 255 * m .state .names
-  pub rowsUsed : rowSize * m .state .rows ≤ length (m .rows)
+  pub rowsUsed : m .state .rows ≤ rowRoom (m .rows)
   pub rowsMost : m .state .rows ≤ 127 * m .state .names
 
 -- entryText
@@ -59,7 +59,7 @@ pub record RowInside (used : ℕ) (r : Row) : Type 0 where
   pub kind : KindInside r
 
 -- an entry and all its rows
-pub record EntryInside (s : State) (table : List ℕ) (e : Entry) : Type 0 where
+pub record EntryInside (s : State) (table : Table) (e : Entry) : Type 0 where
   pub text : TextInside s e
   pub rows : RowsInside s e
   pub each : (j : ℕ) → e .first ≤ j → j < e .first + e .rows → RowInside (s .text) (rowAt table j)

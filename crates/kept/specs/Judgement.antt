@@ -1,16 +1,15 @@
 -- "13 in full": kept numbers that point outside.
 use Prim.Native.Nat.{ℕ, _+_, _*_}
 use mathlib.Core.Bool.{Bool, true}
-use mathlib.Core.List.{List}
 use lib.Dec.{leb, eqb}
 use lib.ListN.{length}
 use Rattle.base.specs.Choice.{pick, both}
 use Rattle.base.specs.Every.{each}
 use Rattle.digits.specs.Digits.{fitsWidth}
 use Rattle.block.specs.declared.State.{State}
-use Rattle.kept.specs.declared.Entry.{Entry}
-use Rattle.kept.specs.declared.Row.{Row}
-use Rattle.kept.specs.Tables.{Kept, entrySize, rowSize, room, entryAt, rowAt}
+use Rattle.tables.specs.declared.Entry.{Entry}
+use Rattle.tables.specs.declared.Row.{Row}
+use Rattle.tables.specs.Tables.{Table, Kept, entrySize, room, rowRoom, entryAt, rowAt}
 
 -- k above the count or the entries of its table, the count above 65,536,
 -- text used above its buffer or above 255 times k: the counts that a claim is judged by too
@@ -27,7 +26,7 @@ unfoldable pub rowCounts : State → ℕ → Bool
 rowCounts s rows = both (leb (s .rows) rows) (leb (s .rows) (127 * s .names))
 
 unfoldable pub counts : Kept → Bool
-counts m = both (textCounts (m .state) (length (m .text)) (room entrySize (m .names))) (rowCounts (m .state) (room rowSize (m .rows)))
+counts m = both (textCounts (m .state) (length (m .text)) (room entrySize (m .names))) (rowCounts (m .state) (rowRoom (m .rows)))
 
 -- in an entry, a text of 0 or more than 254 bytes, text beyond the used part
 unfoldable pub entryText : State → Entry → Bool
@@ -50,7 +49,7 @@ unfoldable pub rowFits : ℕ → Row → Bool
 rowFits used r = both (leb (r .start + r .length) used) (rowKind r)
 
 -- so many rows from one on
-unfoldable pub rowsFit : ℕ → List ℕ → ℕ → ℕ → Bool
+unfoldable pub rowsFit : ℕ → Table → ℕ → ℕ → Bool
 rowsFit used rows first many = each (λ (i : ℕ). rowFits used (rowAt rows i)) first many
 
 -- an earlier name's entry and all its rows

@@ -4,14 +4,13 @@ ghost use mathlib.Core.Path.{_≡_};
 ghost use mathlib.Core.List.{[]};
 ghost use Prim.Native.Nat.{_≤_, _+_, _*_, _/_};
 ghost use lib.ListN.{length};
-ghost use Rattle.kept.specs.Tables.{entrySize, rowSize, keeping};
+ghost use Rattle.tables.specs.Tables.{entrySize, rowSize, inRows, rowRoom, keeping, rowsLent, tablesLent};
 ghost use Rattle.kept.specs.Judgement.{textCounts, rowCounts, counts, entryText, entryRows, rowKind, rowFits, rowsFit, earlierFits};
 ghost use Rattle.base.specs.Lent.{lent};
-use crate::Entry;
-use crate::Row;
-use crate::tables;
 use block::Block;
 use block::State;
+use tables::Entry;
+use tables::Row;
 
 // A name's tokens but END, and its bytes with byte 10.
 const ROWS: u32 = Block::TOKENS - 1;
@@ -38,7 +37,7 @@ fn row_counts(s: State, numbers: usize) -> bool
 }
 
 pub fn counts(s: State, text: &[u8], names: &[u32], rows: &[u32]) -> bool
-    ensures { λ r. ⌜ r ≡ counts (keeping s (lent text) (lent names) (lent rows)) ⌝ }
+    ensures { λ r. ⌜ r ≡ counts (tablesLent s text names rows) ⌝ }
 {
     text_counts(s, text.len(), names.len()) & row_counts(s, rows.len())
 }
@@ -77,8 +76,8 @@ pub fn row_fits(used: u32, r: Row) -> bool
 
 // No way out inside the loop: in a sound table every row is looked at.
 pub fn rows_fit(used: u32, rows: &[u32], first: u32, many: u32) -> bool
-    requires { ⌜ (first + many ≤ 4294967295) × (rowSize * (first + many) ≤ length (now rows)) ⌝ }
-    ensures { λ r. ⌜ r ≡ rowsFit used (lent rows) first many ⌝ }
+    requires { ⌜ (first + many ≤ 4294967295) × (first + many ≤ rowRoom (inRows (now rows))) ⌝ }
+    ensures { λ r. ⌜ r ≡ rowsFit used (rowsLent rows) first many ⌝ }
 {
     let end = first + many;
     let mut ok = true;
@@ -92,8 +91,8 @@ pub fn rows_fit(used: u32, rows: &[u32], first: u32, many: u32) -> bool
 
 // The text itself isn't looked at: the judgement is the same whatever it holds.
 pub fn earlier_fits(s: State, names: &[u32], rows: &[u32], i: u32) -> bool
-    requires { ⌜ (entrySize * i + entrySize ≤ length (now names)) × (rowSize * s .rows ≤ length (now rows)) ⌝ }
-    ensures { λ r. ⌜ r ≡ earlierFits (keeping s [] (lent names) (lent rows)) i ⌝ }
+    requires { ⌜ (entrySize * i + entrySize ≤ length (now names)) × (s .rows ≤ rowRoom (inRows (now rows))) ⌝ }
+    ensures { λ r. ⌜ r ≡ earlierFits (keeping s [] (lent names) (rowsLent rows)) i ⌝ }
 {
     let e = tables::entry_at(names, i);
     if entry_text(s, e) & entry_rows(s, e) {

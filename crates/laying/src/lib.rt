@@ -13,6 +13,7 @@ ghost use Rattle.laying.specs.Puts.{put};
 ghost use Rattle.laying.specs.Passes.{counts, fills, moved, world, stepOf, Room, cleared, offsetIn, placesOf};
 ghost use Rattle.base.specs.Lent.{lent, left};
 use block::Block;
+use block::Span;
 
 // What a pass over the puts does: it finds the total, counts each span's size, or fills.
 pub enum Pass {
@@ -42,12 +43,13 @@ fn fills_in(pass: Pass) -> bool
 }
 
 // A span's end moved n bytes on.
-fn advance(pass: Pass, directory: &mut [u32], span: usize, n: u32)
-    requires { ⌜ (span < 1290) × ((length (now directory) ≡ 2580) × (counts pass ≡ true → endOf (now directory) span + n < 2 ^ 32)) ⌝ }
-    ensures { λ _. ⌜ left directory ≡ pick (counts pass) (moved (lent directory) span n) (lent directory) ⌝ }
+fn advance(pass: Pass, directory: &mut [u32], span: Span, n: u32)
+    requires { ⌜ (span .0 < 1290) × ((length (now directory) ≡ 2580) × (counts pass ≡ true → endOf (now directory) (span .0) + n < 2 ^ 32)) ⌝ }
+    ensures { λ _. ⌜ left directory ≡ pick (counts pass) (moved (lent directory) (span .0) n) (lent directory) ⌝ }
 {
     if counts_in(pass) {
-        let i = 2 * span + 1;
+        let k = span.0;
+        let i = 2 * k + 1;
         let end = directory[i];
         directory[i] = end + n;
     }
@@ -106,13 +108,14 @@ pub fn put_byte(
     total: u32,
     directory: &mut [u32],
     bytes: &mut [u8],
-    span: usize,
+    span: Span,
     b: u8,
 ) -> u32
-    requires { ⌜ Room pass span 1 (world total (now directory) (now bytes)) ⌝ }
-    ensures { λ r. ⌜ world r (left directory) (left bytes) ≡ stepOf pass (put span (b ∷ [])) (world total (lent directory) (lent bytes)) ⌝ }
+    requires { ⌜ Room pass (span .0) 1 (world total (now directory) (now bytes)) ⌝ }
+    ensures { λ r. ⌜ world r (left directory) (left bytes) ≡ stepOf pass (put (span .0) (b ∷ [])) (world total (lent directory) (lent bytes)) ⌝ }
 {
-    let at = directory[2 * span + 1] as usize;
+    let k = span.0;
+    let at = directory[2 * k + 1] as usize;
     write_byte(pass, bytes, at, b);
     advance(pass, directory, span, 1);
     total + 1
@@ -123,13 +126,14 @@ pub fn put_four(
     total: u32,
     directory: &mut [u32],
     bytes: &mut [u8],
-    span: usize,
+    span: Span,
     v: u32,
 ) -> u32
-    requires { ⌜ Room pass span 4 (world total (now directory) (now bytes)) ⌝ }
-    ensures { λ r. ⌜ world r (left directory) (left bytes) ≡ stepOf pass (put span (fourBytes v)) (world total (lent directory) (lent bytes)) ⌝ }
+    requires { ⌜ Room pass (span .0) 4 (world total (now directory) (now bytes)) ⌝ }
+    ensures { λ r. ⌜ world r (left directory) (left bytes) ≡ stepOf pass (put (span .0) (fourBytes v)) (world total (lent directory) (lent bytes)) ⌝ }
 {
-    let at = directory[2 * span + 1] as usize;
+    let k = span.0;
+    let at = directory[2 * k + 1] as usize;
     write_four(pass, bytes, at, v);
     advance(pass, directory, span, 4);
     total + 4
@@ -140,16 +144,17 @@ pub fn put_text(
     total: u32,
     directory: &mut [u32],
     bytes: &mut [u8],
-    span: usize,
+    span: Span,
     name: &[u8],
     from: usize,
     to: usize,
 ) -> u32
     requires { ⌜ (from ≤ to) × (to ≤ length (now name)) ⌝ }
-    requires { ⌜ Room pass span (to - from + 1) (world total (now directory) (now bytes)) ⌝ }
-    ensures { λ r. ⌜ world r (left directory) (left bytes) ≡ stepOf pass (put span (part (lent name) from to ++ 0 ∷ [])) (world total (lent directory) (lent bytes)) ⌝ }
+    requires { ⌜ Room pass (span .0) (to - from + 1) (world total (now directory) (now bytes)) ⌝ }
+    ensures { λ r. ⌜ world r (left directory) (left bytes) ≡ stepOf pass (put (span .0) (part (lent name) from to ++ 0 ∷ [])) (world total (lent directory) (lent bytes)) ⌝ }
 {
-    let at = directory[2 * span + 1] as usize;
+    let k = span.0;
+    let at = directory[2 * k + 1] as usize;
     write_text(pass, bytes, at, name, from, to);
     let n = (to - from + 1) as u32;
     advance(pass, directory, span, n);

@@ -9,7 +9,7 @@ use lib.Dec.{eqb}
 use lib.ListN.{length}
 use Rattle.base.proofs.Choice.{pick-true, pick-false, by-test}
 use Rattle.block.specs.declared.Refusal.the-variants.{Plain, At}
-use Rattle.tokens.specs.Types.{draftPlain, Rules, rulesOf}
+use Rattle.types.specs.Types.{draftPlain, Rules, rulesOf}
 use Rattle.laying.specs.Puts.{totalOf}
 use Rattle.inputs.specs.declared.Judged.{Judged}
 use Rattle.inputs.specs.declared.Judged.the-variants.{Fine, Bad}

@@ -9,7 +9,7 @@ use lib.ListN.{length, length-append}
 use Rattle.base.proofs.Choice.{pick-true, pick-false}
 use Rattle.base.proofs.Numbers.{lt-or-ge}
 use Rattle.block.specs.declared.Refusal.the-variants.{Plain}
-use Rattle.tokens.specs.Types.{draftPlain, Rules, rulesOf}
+use Rattle.types.specs.Types.{draftPlain, Rules, rulesOf}
 use Rattle.writing.specs.declared.WriteAnswer.{WriteAnswer}
 use Rattle.writing.specs.declared.WriteAnswer.the-variants.{Written, Refused}
 use Rattle.inputs.specs.Inputs.{namesAfter, namesOf}

@@ -4,7 +4,7 @@ use mathlib.Core.Path.{_≡_, refl}
 use mathlib.Core.List.{List, [], _∷_}
 use Rattle.base.specs.Choice.{pick}
 use Rattle.base.specs.Memory.{part}
-use Rattle.base.specs.Same.{same}
+use Rattle.comparing.specs.Same.{same}
 use Rattle.digits.specs.Digits.{low, padded, countWithin, digitCount, printed, isDigit, valueOf, valueFrom}
 use Rattle.base.specs.Every.{every}
 use Rattle.classes.specs.Classes.{isAllowed}
@@ -17,7 +17,7 @@ use Rattle.choices.specs.Choices.{leanString, leanChar, byRise, leanDigits, byR
 use Rattle.references.specs.References.{anew, referenceOf, leansOn}
 use Rattle.laying.specs.Puts.{share, contentOf, joined, startIn, totalOf}
 use Rattle.inputs.specs.Inputs.{namesAfter, namesOf, ended, goodName, judgedFrom}
-use Rattle.tokens.specs.Types.{numbersOf, typeNumber}
+use Rattle.types.specs.Types.{numbersOf, typeNumber}
 use Rattle.tokenputs.specs.TokenPuts.{pieceType, choiceType, choicePuts, tokenPuts}
 use Rattle.valueputs.specs.ValuePuts.{piecePuts, valuePuts}
 use Rattle.nameputs.specs.NamePuts.{headPuts, referencePuts, namePuts, putsFrom, putsOf}

@@ -7,7 +7,7 @@ use lib.Dec.{ltb}
 use lib.ListN.{length}
 use Rattle.base.specs.Choice.{pick}
 use Rattle.block.specs.declared.Refusal.the-variants.{Plain, At}
-use Rattle.tokens.specs.Types.{draftPlain, Rules, rulesOf}
+use Rattle.types.specs.Types.{draftPlain, Rules, rulesOf}
 use Rattle.laying.specs.Puts.{totalOf}
 use Rattle.inputs.specs.declared.Judged.{Judged}
 use Rattle.inputs.specs.declared.Judged.the-variants.{Fine, Bad}

@@ -9,7 +9,7 @@ ghost use Rattle.block.specs.Streams.{typeStream, digits0Stream, dzlenStream};
 use block::stream;
 use spans::Cursor;
 use spans::Position;
-use tokens::TokenType;
+use types::TokenType;
 
 // A cursor so many bytes on.
 pub fn move_on(cursors: &mut [u32], p: Position, stream: u32, n: u32)
@@ -18,8 +18,9 @@ pub fn move_on(cursors: &mut [u32], p: Position, stream: u32, n: u32)
     ensures { λ _. ⌜ left cursors ≡ past (lent cursors) (spanOf (p .0) stream) n ⌝ }
 {
     let span = block::span_of(p, stream);
-    let at = cursors[span];
-    cursors[span] = at + n;
+    let i = span.0;
+    let at = cursors[i];
+    cursors[i] = at + n;
 }
 
 fn move_to(cursors: &mut [u32], p: Position, stream: u32, c: Cursor)
@@ -27,7 +28,8 @@ fn move_to(cursors: &mut [u32], p: Position, stream: u32, c: Cursor)
     ensures { λ _. ⌜ left cursors ≡ set (lent cursors) (spanOf (p .0) stream) (c .0) ⌝ }
 {
     let span = block::span_of(p, stream);
-    cursors[span] = c.0;
+    let i = span.0;
+    cursors[i] = c.0;
 }
 
 // A number and, a byte each, its width.

@@ -9,7 +9,7 @@ use Rattle.base.proofs.Choice.{pick-true, pick-false, by-test}
 use Rattle.spans.specs.Spans.{fourBytes}
 use Rattle.block.proofs.Laws.{span-below}
 use Rattle.block.specs.Streams.{dupStream, diffStream}
-use Rattle.tokens.specs.Types.{Rules}
+use Rattle.types.specs.Types.{Rules}
 use Rattle.references.specs.declared.Reference.{Reference}
 use Rattle.references.specs.declared.Reference.the-variants.{Dup, Diff}
 use Rattle.choices.specs.Choices.{choicesFrom, choicesOf}

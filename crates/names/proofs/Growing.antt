@@ -1,8 +1,8 @@
 -- A name grows position by position: what its text and rows come to, and what it doesn't depend on.
-use Prim.Native.Nat.{ℕ, zero, suc, _+_, _*_, _≤_, _<_}
+use Prim.Native.Nat.{ℕ, zero, suc, _+_, _≤_, _<_}
 use mathlib.Core.Path.{_≡_, refl, sym, ap, _∙_}
 use mathlib.Core.Bool.{true, false}
-use mathlib.Core.List.{List}
+use mathlib.Core.List.{List, [], _∷_}
 use native.Mathlib.Omega.{arith}
 use borrow.Author.Tests.{leb-true, eqb-false}
 use lib.Dec.{leb, eqb}
@@ -11,10 +11,8 @@ use Rattle.base.specs.Choice.{pick}
 use Rattle.base.proofs.Choice.{pick-true, pick-false, by-test, both-true}
 use Rattle.classes.specs.Classes.{allAllowed}
 use Rattle.spans.specs.declared.Cursor.{Cursor}
-use Rattle.kept.specs.Tables.{rowSize}
 use Rattle.tokens.specs.Tokens.{bytesOf, rowOf}
 use Rattle.tokens.specs.declared.Token.{Token}
-use Rattle.tokens.proofs.Laws.{length-row}
 use Rattle.values.specs.declared.Step.{Step}
 use Rattle.values.specs.declared.Step.the-variants as step
 use Rattle.sources.specs.Source.{Source, Earlier}
@@ -35,7 +33,7 @@ pub record Grows (d D : Draft) (f : ℕ) : Type 0 where
   pub short : length (d .text) ≤ 254 → length (D .text) ≤ 254
   pub more : d .count ≤ D .count
   pub few : D .count < d .count + f
-  pub whole : length (d .rows) ≡ rowSize * d .count → length (D .rows) ≡ rowSize * D .count
+  pub whole : length (d .rows) ≡ d .count → length (D .rows) ≡ D .count
   pub held : (1 ≤ length (d .text) → 1 ≤ d .count) → 1 ≤ D .count
 
 module _ (s : Source) (e : Earlier) (used p f : ℕ) (d D : Draft) (t : Token) (c : ℕ) where
@@ -44,8 +42,7 @@ module _ (s : Source) (e : Earlier) (used p f : ℕ) (d D : Draft) (t : Token) (
   grown-grows y g =
       let b = bytesOf (s .bytes) (e .text) t in
       let l = length-append (d .text) b in
-      let r = length-append (d .rows) (rowOf t (used + length (d .text))) in
-      let k = length-row t (used + length (d .text)) in
+      let r = length-append (d .rows) (rowOf t (used + length (d .text)) ∷ []) in
       let m = printable-short b (length (d .text)) y in
       record {
         longer = omega (arith, g .longer);

@@ -14,12 +14,13 @@ use Rattle.spans.specs.declared.Cursor.{Cursor}
 use Rattle.spans.specs.declared.NextByte.{NextByte}
 use Rattle.block.specs.Block.{spanOf, endOf, cursorOf}
 use Rattle.block.specs.Open.{Open}
-use Rattle.kept.specs.Tables.{rowSize}
-use Rattle.tokens.specs.declared.TokenType.{TokenType}
+use Rattle.tables.specs.Tables.{Table, rowRoom, putRows}
+use Rattle.tables.proofs.Rows.{RowsBelow, put-none, put-next}
+use Rattle.types.specs.declared.TokenType.{TokenType}
 use Rattle.tokens.specs.declared.Token.{Token}
 use Rattle.tokens.specs.Tokens.{bytesOf, lengthOf, rowOf}
-use Rattle.tokens.proofs.Laws.{length-bytes, length-row}
-use Rattle.tokens.specs.Types.{Rules}
+use Rattle.tokens.proofs.Laws.{length-bytes}
+use Rattle.types.specs.Types.{Rules}
 use Rattle.values.specs.declared.Step.{Step}
 use Rattle.values.specs.declared.Step.the-variants as step
 use Rattle.sources.specs.Source.{Source, source, Earlier, earlier, byteIn}
@@ -40,34 +41,34 @@ pub step-of : (s : Source) (e : Earlier) (p : ℕ) {found : NextByte} {r : Step}
 unfolding stepAt
 step-of s e p f q = q ∙ ap (typedStep s e p) f
 
-pub token-put : (bytes text rows cur : List ℕ) (t : Token) (ty : TokenType) (p c at row : ℕ) {text' rows' cur' : List ℕ}
-    → text' ≡ written text at (bytesOf bytes text t) → rows' ≡ written rows (rowSize * row) (rowOf t at) → cur' ≡ valuePast ty p c (past cur (spanOf p 0) 1)
+pub token-put : (bytes text : List ℕ) (rows : Table) (cur : List ℕ) (t : Token) (ty : TokenType) (p c at row : ℕ) {text' : List ℕ} {rows' : Table} {cur' : List ℕ}
+    → text' ≡ written text at (bytesOf bytes text t) → rows' ≡ putRows rows row (rowOf t at ∷ []) → cur' ≡ valuePast ty p c (past cur (spanOf p 0) 1)
     → memory text' rows' cur' ≡ putToken bytes (memory text rows cur) t ty p c at row
 unfolding putToken
 token-put bytes text rows cur t ty p c at row e f g = cc
 
 -- what lies before position p is kept, and what is read from there on is the rest of the name D
-pub record Going (rules : Rules) (bytes dir text₀ rows₀ : List ℕ) (first count used row : ℕ) (D : Draft) (cur text rows : List ℕ) (p at : ℕ) : Type 0 where
+pub record Going (rules : Rules) (bytes dir text₀ : List ℕ) (rows₀ : Table) (first count used row : ℕ) (D : Draft) (cur text : List ℕ) (rows : Table) (p at : ℕ) : Type 0 where
   pub d : Draft
   pub low : 1 ≤ p
   pub high : p ≤ 128
   pub texts : text ≡ written text₀ used (d .text)
-  pub table : rows ≡ written rows₀ (rowSize * row) (d .rows)
+  pub table : rows ≡ putRows rows₀ row (d .rows)
   pub cursors : cur ≡ d .cur
   pub place : at ≡ used + length (d .text)
   pub short : length (d .text) ≤ 254
   pub counted : p ≡ d .count + 1
-  pub whole : length (d .rows) ≡ rowSize * d .count
+  pub whole : length (d .rows) ≡ d .count
   pub opened : Open bytes dir cur
   pub known : Rows used (earlier text rows first count)
   pub goes : nameFrom (source rules bytes dir cur) (earlier text rows first count) used (129 - p) p d ≡ named D
   pub lengthText : length text ≡ length text₀
-  pub lengthRows : length rows ≡ length rows₀
+  pub roomRows : rowRoom rows ≡ rowRoom rows₀
   pub belowText : Below 256 text
-  pub belowRows : Below (2 ^ 32) rows
+  pub belowRows : RowsBelow (2 ^ 32) rows
 
-pub begun : (rules : Rules) (bytes dir cur text rows : List ℕ) (first count used row : ℕ) (n : Named) → nameOf (source rules bytes dir cur) (earlier text rows first count) used cur ≡ n
-    → n ≡ named (draftOf n) → Open bytes dir cur → Rows used (earlier text rows first count) → Below 256 text → Below (2 ^ 32) rows
+pub begun : (rules : Rules) (bytes dir cur text : List ℕ) (rows : Table) (first count used row : ℕ) (n : Named) → nameOf (source rules bytes dir cur) (earlier text rows first count) used cur ≡ n
+    → n ≡ named (draftOf n) → Open bytes dir cur → Rows used (earlier text rows first count) → Below 256 text → RowsBelow (2 ^ 32) rows
     → Going rules bytes dir text rows first count used row (draftOf n) cur text rows 1 used
 unfolding nameOf
 begun rules bytes dir cur text rows first count used row n q w o k bt br =
@@ -76,7 +77,7 @@ begun rules bytes dir cur text rows first count used row n q w o k bt br =
       low = omega arith;
       high = omega arith;
       texts = sym (written-none text used []);
-      table = sym (written-none rows (rowSize * row) []);
+      table = sym (put-none rows row);
       cursors = refl;
       place = omega arith;
       short = omega arith;
@@ -86,14 +87,14 @@ begun rules bytes dir cur text rows first count used row n q w o k bt br =
       known = k;
       goes = q ∙ w;
       lengthText = refl;
-      lengthRows = refl;
+      roomRows = refl;
       belowText = bt;
       belowRows = br;
     }
 
-module _ (rules : Rules) (bytes dir text₀ rows₀ : List ℕ) (first count used row : ℕ) (n : Named) (room : Roomy n (first + count) used row text₀ rows₀)
+module _ (rules : Rules) (bytes dir text₀ : List ℕ) (rows₀ : Table) (first count used row : ℕ) (n : Named) (room : Roomy n (first + count) used row text₀ rows₀)
     (bytesBelow : Below 256 bytes) (dirBelow : Below (2 ^ 32) dir)
-    (cur text rows : List ℕ) (p at : ℕ) (g : Going rules bytes dir text₀ rows₀ first count used row (draftOf n) cur text rows p at) where
+    (cur text : List ℕ) (rows : Table) (p at : ℕ) (g : Going rules bytes dir text₀ rows₀ first count used row (draftOf n) cur text rows p at) where
   known-at : (q : ℕ) → p ≤ q → q ≤ 128 → Known (source rules bytes dir cur) (earlier text rows first count) used q
   known-at q h l =
       record { opened = g .opened; rows = g .known; first = omega (arith, g .low); last = l; bytes = bytesBelow; texts = g .belowText; numbers = g .belowRows }
@@ -131,7 +132,7 @@ module _ (rules : Rules) (bytes dir text₀ rows₀ : List ℕ) (first count use
       ∙ ap (λ (x : List ℕ). written x (used + length (g .d .text)) (10 ∷ [])) (g .texts)
       ∙ written-next text₀ used (g .d .text) (10 ∷ []) (omega arith)
       ∙ ap (λ (x : List ℕ). written text₀ used (x ++ (10 ∷ []))) dt in
-      let re : rows ≡ written rows₀ (rowSize * row) (draftOf n .rows) = g .table ∙ ap (λ (x : List ℕ). written rows₀ (rowSize * row) x) dr in
+      let re : rows ≡ putRows rows₀ row (draftOf n .rows) = g .table ∙ ap (putRows rows₀ row) dr in
       let ce : cur' ≡ draftOf n .cur = c ∙ ap (λ (x : List ℕ). past x (spanOf p 0) 1) (g .cursors) ∙ dc in
       cc
 
@@ -175,11 +176,11 @@ module _ (rules : Rules) (bytes dir text₀ rows₀ : List ℕ) (first count use
     unfolding next grown
     next-text = length-append (g .d .text) (bytesOf bytes text t) ∙ ap (λ (x : ℕ). length (g .d .text) + x) wide
 
-    next-rows : length (next .rows) ≡ rowSize * next .count
+    next-rows : length (next .rows) ≡ next .count
     unfolding next grown
     next-rows =
-        length-append (g .d .rows) (rowOf t (used + length (g .d .text)))
-        ∙ omega (arith, length-row t (used + length (g .d .text)), g .whole)
+        length-append (g .d .rows) (rowOf t (used + length (g .d .text)) ∷ [])
+        ∙ omega (arith, g .whole)
 
     next-count : next .count ≡ g .d .count + 1
     unfolding next grown
@@ -189,20 +190,20 @@ module _ (rules : Rules) (bytes dir text₀ rows₀ : List ℕ) (first count use
     next-short = omega (arith, printable-short (bytesOf bytes text t) (length (g .d .text)) prints, wide)
 
     -- there is room for the token
-    pub token-room : (at + lengthOf t ≤ length text) × (rowSize * (row + (p - 1)) + rowSize ≤ length rows)
+    pub token-room : (at + lengthOf t ≤ length text) × (row + (p - 1) < rowRoom rows)
     token-room =
         let w = grows (source rules bytes dir cur) (earlier text rows first count) used (129 - (p + 1)) (p + 1) next (draftOf n) rest in (
           omega (arith, w .longer, next-text, room .bytes, g .place, g .lengthText),
-          omega (arith, w .more, next-count, room .table, g .counted, g .lengthRows),
+          omega (arith, w .more, next-count, room .table, g .counted, g .roomRows),
         )
 
-    module _ (ty : TokenType) (text' rows' cur' : List ℕ) (e : ty ≡ typeAt (source rules bytes dir cur) p)
+    module _ (ty : TokenType) (text' : List ℕ) (rows' : Table) (cur' : List ℕ) (e : ty ≡ typeAt (source rules bytes dir cur) p)
         (m : memory text' rows' cur' ≡ putToken bytes (memory text rows cur) t ty p (c .0) at (row + (p - 1))) where
       text-is : text' ≡ written text at (bytesOf bytes text t)
       unfolding putToken
       text-is = ap (λ (x : Memory). x .text) m
 
-      rows-is : rows' ≡ written rows (rowSize * (row + (p - 1))) (rowOf t at)
+      rows-is : rows' ≡ putRows rows (row + (p - 1)) (rowOf t at ∷ [])
       unfolding putToken
       rows-is = ap (λ (x : Memory). x .rows) m
 
@@ -222,8 +223,8 @@ module _ (rules : Rules) (bytes dir text₀ rows₀ : List ℕ) (first count use
 
       behind : Stays rules bytes dir cur cur' text text' rows rows' first count used (p + 1)
       behind =
-          stays rules bytes dir cur cur' text text' rows rows' first count used (p + 1) at (row + (p - 1)) (bytesOf bytes text t) (rowOf t at) text-is rows-is
-          (omega (arith, g .place)) (omega (arith, room .behind)) (omega (arith, token-room .0, wide)) (omega (arith, token-room .1, length-row t at))
+          stays rules bytes dir cur cur' text text' rows rows' first count used (p + 1) at (row + (p - 1)) (bytesOf bytes text t) (rowOf t at ∷ []) text-is rows-is
+          (omega (arith, g .place)) (omega (arith, room .behind)) (omega (arith, token-room .0, wide)) (omega (arith, token-room .1))
           (g .known) (λ j h l. known-at j (omega arith) l) span-later
 
       text-grown : text' ≡ written text₀ used (next .text)
@@ -233,14 +234,14 @@ module _ (rules : Rules) (bytes dir text₀ rows₀ : List ℕ) (first count use
           ∙ ap (λ (x : List ℕ). written x (used + length (g .d .text)) (bytesOf bytes text t)) (g .texts)
           ∙ written-next text₀ used (g .d .text) (bytesOf bytes text t) (omega (arith, token-room .0, g .place, g .lengthText))
 
-      rows-grown : rows' ≡ written rows₀ (rowSize * row) (next .rows)
+      rows-grown : rows' ≡ putRows rows₀ row (next .rows)
       unfolding next grown
       rows-grown =
-          let at-row : rowSize * (row + (p - 1)) ≡ rowSize * row + length (g .d .rows) = omega (arith, g .whole, g .counted) in
-          rows-is ∙ ap (λ (x : ℕ). written rows (rowSize * (row + (p - 1))) (rowOf t x)) (g .place)
-          ∙ ap (λ (x : ℕ). written rows x (rowOf t (used + length (g .d .text)))) at-row
-          ∙ ap (λ (x : List ℕ). written x (rowSize * row + length (g .d .rows)) (rowOf t (used + length (g .d .text)))) (g .table)
-          ∙ written-next rows₀ (rowSize * row) (g .d .rows) (rowOf t (used + length (g .d .text))) (omega (arith, token-room .1, g .whole, g .counted, g .lengthRows))
+          let at-row : row + (p - 1) ≡ row + length (g .d .rows) = omega (arith, g .whole, g .counted) in
+          rows-is ∙ ap (λ (x : ℕ). putRows rows (row + (p - 1)) (rowOf t x ∷ [])) (g .place)
+          ∙ ap (λ (x : ℕ). putRows rows x (rowOf t (used + length (g .d .text)) ∷ [])) at-row
+          ∙ ap (λ (x : Table). putRows x (row + length (g .d .rows)) (rowOf t (used + length (g .d .text)) ∷ [])) (g .table)
+          ∙ put-next rows₀ row (g .d .rows) (rowOf t (used + length (g .d .text)) ∷ []) (omega (arith, token-room .1, g .whole, g .counted, g .roomRows))
 
       cur-grown : cur' ≡ next .cur
       unfolding next grown
@@ -248,7 +249,7 @@ module _ (rules : Rules) (bytes dir text₀ rows₀ : List ℕ) (first count use
           cur-is ∙ ap (λ (x : List ℕ). valuePast (typeAt (source rules bytes dir cur) p) p (c .0) (past x (spanOf p 0) 1)) (g .cursors)
 
       -- after a turn
-      pub turned : (w : ℕ) → w ≡ lengthOf t → Below 256 text' → Below (2 ^ 32) rows'
+      pub turned : (w : ℕ) → w ≡ lengthOf t → Below 256 text' → RowsBelow (2 ^ 32) rows'
           → Going rules bytes dir text₀ rows₀ first count used row (draftOf n) cur' text' rows' (p + 1) (at + w)
       turned w k bt br =
           record {
@@ -269,7 +270,7 @@ module _ (rules : Rules) (bytes dir text₀ rows₀ : List ℕ) (first count use
                 (129 - (p + 1)) (p + 1) next (omega (arith, told .before)) (behind .alike)
                 ∙ rest;
             lengthText = behind .lengthText ∙ g .lengthText;
-            lengthRows = behind .lengthRows ∙ g .lengthRows;
+            roomRows = behind .roomRows ∙ g .roomRows;
             belowText = bt;
             belowRows = br;
           }

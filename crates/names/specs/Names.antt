@@ -1,7 +1,7 @@
 -- "How one name is read", rule 4: position after position, with 8 judged at each token.
 use Prim.Native.Nat.{ℕ, zero, suc, _+_}
 use mathlib.Core.Bool.{Bool}
-use mathlib.Core.List.{List, [], _++_}
+use mathlib.Core.List.{List, [], _∷_, _++_}
 use lib.Dec.{leb, eqb}
 use lib.ListN.{length}
 use Rattle.base.specs.Choice.{pick, both}
@@ -10,10 +10,11 @@ use Rattle.spans.specs.declared.NextByte.{NextByte}
 use Rattle.spans.specs.declared.NextByte.the-variants as byte
 use Rattle.block.specs.Block.{spanOf}
 use Rattle.block.specs.Streams.{typeStream}
-use Rattle.tokens.specs.declared.TokenType.{TokenType}
-use Rattle.tokens.specs.declared.TokenType.the-variants as type
+use Rattle.tables.specs.declared.Row.{Row}
+use Rattle.types.specs.declared.TokenType.{TokenType}
+use Rattle.types.specs.declared.TokenType.the-variants as type
 use Rattle.tokens.specs.declared.Token.{Token}
-use Rattle.tokens.specs.Types.{Numbers, typeOf}
+use Rattle.types.specs.Types.{Numbers, typeOf}
 use Rattle.tokens.specs.Tokens.{bytesOf, rowOf}
 use Rattle.sources.specs.Source.{Source, Earlier, byteIn}
 use Rattle.values.specs.declared.Step.{Step}
@@ -24,11 +25,11 @@ use Rattle.moving.specs.Moves.{past, valuePast}
 -- a name as far as it is read, `used` bytes of text being kept before it: its text, its rows and how many, and the cursors moved past its bytes
 pub record Draft : Type 0 where
   pub text : List ℕ
-  pub rows : List ℕ
+  pub rows : List Row
   pub count : ℕ
   pub cur : List ℕ
 
-abbrev pub draft : List ℕ → List ℕ → ℕ → List ℕ → Draft
+abbrev pub draft : List ℕ → List Row → ℕ → List ℕ → Draft
 draft t r n c = record { text = t; rows = r; count = n; cur = c }
 
 -- a name read to its END, or the first refusal on the way
@@ -48,7 +49,7 @@ typeAt s p = typeIn (s .rules .numbers) (byteIn s p typeStream)
 unfoldable pub grown : Source → Earlier → ℕ → ℕ → Token → ℕ → Draft → Draft
 grown s e used p t c d = draft
     (d .text ++ bytesOf (s .bytes) (e .text) t)
-    (d .rows ++ rowOf t (used + length (d .text)))
+    (d .rows ++ (rowOf t (used + length (d .text)) ∷ []))
     (d .count + 1)
     (valuePast (typeAt s p) p c (past (d .cur) (spanOf p typeStream) 1))
 

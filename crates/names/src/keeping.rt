@@ -1,9 +1,9 @@
 // A token that was judged, kept: its text, its row, and the cursors past it.
 ghost use mathlib.Core.Path.{_≡_};
-ghost use Prim.Native.Nat.{_≤_, _<_, _+_, _*_, _^_};
+ghost use Prim.Native.Nat.{_≤_, _<_, _+_, _^_};
 ghost use lib.ListN.{length};
 ghost use Rattle.block.specs.Block.{spanOf, cursorOf};
-ghost use Rattle.tokens.specs.Types.{numbersOf};
+ghost use Rattle.types.specs.Types.{numbersOf};
 ghost use Rattle.tokens.specs.Tokens.{lengthOf};
 ghost use Rattle.tokens.specs.Inside.{Inside, KeptBelow};
 ghost use Rattle.names.specs.Names.{typeIn};
@@ -11,13 +11,13 @@ ghost use Rattle.moving.specs.Moves.{Movable};
 ghost use Rattle.names.specs.Keeps.{putToken, memoryLent, memoryLeft};
 ghost use Rattle.base.specs.Lent.{lent};
 ghost use Rattle.block.specs.Streams.{typeStream};
-ghost use Rattle.kept.specs.Tables.{rowSize};
+ghost use Rattle.tables.specs.Tables.{inRows, rowRoom};
 use block::Setting;
 use spans::Cursor;
 use spans::NextByte;
 use spans::Position;
 use tokens::Token;
-use tokens::TokenType;
+use types::TokenType;
 
 pub fn type_in(set: Setting, found: NextByte) -> TokenType
     ensures { λ r. ⌜ r ≡ typeIn (numbersOf (set .kind)) found ⌝ }
@@ -25,7 +25,7 @@ pub fn type_in(set: Setting, found: NextByte) -> TokenType
     match found {
         NextByte::Value(b, _) => {
             let kind = set.kind;
-            tokens::type_of(kind, b)
+            types::type_of(kind, b)
         }
         NextByte::Short => TokenType::Other,
     }
@@ -46,7 +46,7 @@ pub fn keep_token(
 ) -> u32
     requires { ⌜ Inside (now bytes) (now text) t ⌝ }
     requires { ⌜ KeptBelow at t ⌝ }
-    requires { ⌜ (at + lengthOf t ≤ length (now text)) × (rowSize * row + rowSize ≤ length (now rows)) ⌝ }
+    requires { ⌜ (at + lengthOf t ≤ length (now text)) × (row < rowRoom (inRows (now rows))) ⌝ }
     requires { ⌜ (length (now cursors) ≡ 1290) × ((p .0 ≤ 128) × (cursorOf (now cursors) (spanOf (p .0) typeStream) + 1 < 2 ^ 32)) ⌝ }
     requires { ⌜ Movable ty (p .0) (now cursors) ⌝ }
     ensures { λ r. ⌜ r ≡ lengthOf t ⌝ }

@@ -12,8 +12,8 @@ use Rattle.base.specs.Every.{Below}
 use Rattle.block.specs.declared.State.{State}
 use Rattle.block.specs.Open.{Open}
 use Rattle.block.specs.Streams.{diffStream}
-use Rattle.tokens.specs.Types.{Rules}
-use Rattle.kept.specs.Tables.{entrySize, keeping}
+use Rattle.types.specs.Types.{Rules}
+use Rattle.tables.specs.Tables.{entrySize, keeping, Table}
 use Rattle.kept.specs.Inside.{Counted}
 use Rattle.sources.specs.Source.{source, Earlier, earlier}
 use Rattle.repeats.specs.Sound.{Rows}
@@ -27,18 +27,20 @@ use Rattle.names.proofs.Judgement.{judge-of}
 use Rattle.names.proofs.Frames.{SameFrom, Judges, judged-name, judged-refused, name-bounds, name-cursors}
 use Rattle.entries.specs.declared.Reading.{Reading}
 use Rattle.heads.specs.Headed.{Headed, Passable}
-use Rattle.entries.specs.Outcomes.{outcome, refusing, atName}
-use Rattle.entries.specs.Entries.{keepingName, roomOf, roomFor, entryOf}
+use Rattle.outcomes.specs.Outcomes.{outcome, refusing, atName}
+use Rattle.outcomes.specs.Keeping.{roomFor}
+use Rattle.entries.specs.Entries.{keepingName, roomOf, entryOf}
 use Rattle.heads.specs.Heads.{headPast}
 use Rattle.naming.specs.Naming.{namedOf, diffOf}
 use Rattle.heads.proofs.Heads.{head-same, head-open, head-passable}
-use Rattle.entries.proofs.Entries.{Room, has-room, enter-asks, room-same, keep-refused, keep-kept}
+use Rattle.outcomes.proofs.Keeping.{room-same, keep-refused, keep-kept}
+use Rattle.entries.proofs.Entries.{Room, has-room, enter-asks}
 
 never-both : {r : ℕ} {d : Draft} → named d ≡ refused r → ⊥
 never-both q = let z : _≡_ {A = ℕ} 0 1 = cc in omega arith
 
 -- no earlier name has no rows
-pub none-spelt : (text rows : List ℕ) → RowsSpelt (earlier text rows 0 0)
+pub none-spelt : (text : List ℕ) (rows : Table) → RowsSpelt (earlier text rows 0 0)
 none-spelt text rows = record { each = λ j a b. absurd (omega arith); laid = λ j a b. absurd (omega arith) }
 
 -- what is known of rows is known under another name
@@ -50,12 +52,12 @@ pub walks-less : {b : Bool} → b ≡ false → pick true 0 1 < pick b 0 1
 unfolding pick
 walks-less q = rw q (omega arith)
 
-module _ (rules : Rules) (bytes dir cur text names rows : List ℕ) (st : State) (distance first count : ℕ) where
+module _ (rules : Rules) (bytes dir cur text names : List ℕ) (rows : Table) (st : State) (distance first count : ℕ) where
   abbrev name : Named
   name = nameOf (source rules bytes dir cur) (earlier text rows first count) (st .text) (headPast cur diffStream)
 
   -- where a walk starts, nothing is written; where it is to keep, the name is judged, there is room for it, and the head's cursors are moved
-  pub record Starts (keeps : Bool) (cur' text' names' rows' : List ℕ) : Type 0 where
+  pub record Starts (keeps : Bool) (cur' text' names' : List ℕ) (rows' : Table) : Type 0 where
     pub texts : text' ≡ text
     pub entries : names' ≡ names
     pub table : rows' ≡ rows
@@ -65,7 +67,6 @@ module _ (rules : Rules) (bytes dir cur text names rows : List ℕ) (st : State)
     pub lengthCursors : length cur' ≡ length cur
     pub lengthText : length text' ≡ length text
     pub lengthEntries : length names' ≡ length names
-    pub lengthRows : length rows' ≡ length rows
 
   -- the first walk is one that judges
   pub starts : {keeps : Bool} → keeps ≡ false → Starts keeps cur text names rows
@@ -79,7 +80,6 @@ module _ (rules : Rules) (bytes dir cur text names rows : List ℕ) (st : State)
     lengthCursors = refl;
     lengthText = refl;
     lengthEntries = refl;
-    lengthRows = refl;
   }
 
   same-from : (keeps : Bool) → SameFrom 1 (pick keeps (headPast cur diffStream) cur) cur
@@ -120,7 +120,7 @@ module _ (rules : Rules) (bytes dir cur text names rows : List ℕ) (st : State)
     opens keeps = pick-holds (Open bytes dir) keeps _ _ (λ q. head-open rules bytes dir cur diffStream distance (st .names) o (omega arith) (omega arith) g) (λ q. o)
 
     -- what a walk asks for
-    pub walk-asks : (known : Bool) → Repeats known (earlier text rows first count) → (keeps : Bool) {cur' text' names' rows' : List ℕ} → Starts keeps cur' text' names' rows'
+    pub walk-asks : (known : Bool) → Repeats known (earlier text rows first count) → (keeps : Bool) {cur' text' names' : List ℕ} {rows' : Table} → Starts keeps cur' text' names' rows'
         → Open bytes dir cur' × (Rows (st .text) (earlier text' rows' first count)
         × (((st .text < 2 ^ 31) × ((first + count ≤ st .rows) × (st .rows < 2 ^ 31)))
         × (Repeats known (earlier text' rows' first count)
@@ -138,7 +138,7 @@ module _ (rules : Rules) (bytes dir cur text names rows : List ℕ) (st : State)
         )
 
     -- a walk, and what it answers and leaves
-    module _ (keeps : Bool) (cur' text' names' rows' : List ℕ) (s : Starts keeps cur' text' names' rows') (j : Judged) (cur'' text'' rows'' : List ℕ)
+    module _ (keeps : Bool) (cur' text' names' : List ℕ) (rows' : Table) (s : Starts keeps cur' text' names' rows') (j : Judged) (cur'' text'' : List ℕ) (rows'' : Table)
         (told : j ≡ summary (nameOf (source rules bytes dir cur') (earlier text' rows' first count) (st .text) cur'))
         (left : memory text'' rows'' cur'' ≡ pick keeps
         (putName (st .text) (st .rows) text' rows' (draftOf (nameOf (source rules bytes dir cur') (earlier text' rows' first count) (st .text) cur')))
@@ -214,7 +214,6 @@ module _ (rules : Rules) (bytes dir cur text names rows : List ℕ) (st : State)
               lengthCursors = ap length p ∙ l ∙ sym (o .table);
               lengthText = ap length t;
               lengthEntries = ap length n;
-              lengthRows = ap length v;
             }
 
         module _ (y : keeps ≡ true) where

@@ -4,11 +4,11 @@ use Rattle.base.specs.Lent.{Buffer, lent}
 use Rattle.block.specs.declared.Setting.{Setting}
 use Rattle.block.specs.declared.State.{State}
 use Rattle.block.specs.Streams.{diffStream}
-use Rattle.kept.specs.Tables.{Kept, tablesLent}
+use Rattle.tables.specs.Tables.{Kept, tablesLent, rowsLent}
 use Rattle.sources.specs.Source.{Source, Earlier, earlier, blockLent}
 use Rattle.names.specs.Names.{Named, named, refused, nameOf}
-use Rattle.entries.specs.Outcomes.{Outcome, atName}
-use Rattle.entries.specs.Entries.{keepOf}
+use Rattle.outcomes.specs.Outcomes.{Outcome, atName}
+use Rattle.outcomes.specs.Keeping.{keepOf}
 use Rattle.heads.specs.Heads.{headPast}
 
 -- rule 4
@@ -22,4 +22,4 @@ diffOf s m distance e = namedOf s m distance (nameOf s e (m .state .text) (headP
 -- the same over what a call is lent
 abbrev pub diffOfLent : Setting → Buffer → Buffer → Buffer → Buffer → Buffer → Buffer → State → ℕ → ℕ → ℕ → Outcome
 diffOfLent set bytes dir cursors text entries rows state distance first count =
-    diffOf (blockLent set bytes dir cursors) (tablesLent state text entries rows) distance (earlier (lent text) (lent rows) first count)
+    diffOf (blockLent set bytes dir cursors) (tablesLent state text entries rows) distance (earlier (lent text) (rowsLent rows) first count)

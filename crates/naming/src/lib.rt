@@ -2,13 +2,13 @@
 ghost use mathlib.Core.Path.{_≡_};
 ghost use Prim.Native.Nat.{_+_, _≤_};
 ghost use Rattle.block.specs.Open.{Open};
-ghost use Rattle.kept.specs.Tables.{keeping};
+ghost use Rattle.tables.specs.Tables.{keeping, inRows};
 ghost use Rattle.kept.specs.Inside.{Counted};
-ghost use Rattle.tokens.specs.Types.{rulesOf};
+ghost use Rattle.types.specs.Types.{rulesOf};
 ghost use Rattle.sources.specs.Source.{source, earlier};
 ghost use Rattle.repeats.specs.Sound.{Rows};
 ghost use Rattle.repeating.specs.Repeats.{Repeats};
-ghost use Rattle.entries.specs.Outcomes.{leaves};
+ghost use Rattle.outcomes.specs.Outcomes.{leaves};
 ghost use Rattle.heads.specs.Headed.{Headed};
 ghost use Rattle.naming.specs.Naming.{diffOfLent};
 ghost use Rattle.block.specs.Streams.{diffStream};
@@ -16,7 +16,6 @@ use block::Setting;
 use block::State;
 use block::stream;
 use entries::Reading;
-use heads::heading;
 use names::Judged;
 use spans::Distance;
 
@@ -36,10 +35,10 @@ pub fn named(
     count: u32,
 ) -> Reading
     requires { ⌜ Open (now bytes) (now dir) (now cursors) ⌝ }
-    requires { ⌜ Counted (keeping state (now text) (now entries) (now rows)) ⌝ }
-    requires { ⌜ Rows (state .text) (earlier (now text) (now rows) first count) × (first + count ≤ state .rows) ⌝ }
+    requires { ⌜ Counted (keeping state (now text) (now entries) (inRows (now rows))) ⌝ }
+    requires { ⌜ Rows (state .text) (earlier (now text) (inRows (now rows)) first count) × (first + count ≤ state .rows) ⌝ }
     requires { ⌜ Headed (source (rulesOf set) (now bytes) (now dir) (now cursors)) diffStream (distance .0) (state .names) ⌝ }
-    requires { ⌜ Repeats known (earlier (now text) (now rows) first count) ⌝ }
+    requires { ⌜ Repeats known (earlier (now text) (inRows (now rows)) first count) ⌝ }
     ensures { λ r. ⌜ leaves r cursors text entries rows ≡ diffOfLent set bytes dir cursors text entries rows state (distance .0) first count ⌝ }
 {
     let mut keeping = false;
@@ -59,7 +58,7 @@ pub fn named(
             state.rows,
         ) {
             Judged::Refused(r) => {
-                return entries::refuse(r, state);
+                return outcomes::refuse(r, state);
             }
             Judged::Name {
                 rows: added,
@@ -69,10 +68,10 @@ pub fn named(
                     return entries::enter(entries, state, size, added, state.rows, added, distance);
                 }
                 if entries::has_room(state, text, entries, rows, size, added) {
-                    heading::move_head(cursors, stream::DIFF);
+                    heads::move_head(cursors, stream::DIFF);
                     keeping = true;
                 } else {
-                    return entries::refuse(9, state);
+                    return outcomes::refuse(9, state);
                 }
             }
         }

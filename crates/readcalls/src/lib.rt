@@ -1,8 +1,8 @@
 // A read and a whole block as C functions leave them: the answer one number, the state as four.
 // A refused read leaves what it may write as it was, the state too; a whole block keeps what was done before the refusal.
 ghost use mathlib.Core.Path.{_≡_};
-ghost use Rattle.tokens.specs.Types.{rulesOf};
-ghost use Rattle.calls.specs.Calls.{readsLeft, readCallLent, blockCallLent};
+ghost use Rattle.types.specs.Types.{rulesOf};
+ghost use Rattle.readcalls.specs.Calls.{readsLeft, readCallLent, blockCallLent};
 use block::Setting;
 
 pub fn read(
@@ -17,10 +17,10 @@ pub fn read(
 ) -> u64
     ensures { λ r. ⌜ readsLeft r cursors text names rows state ≡ readCallLent (rulesOf set) bytes dir cursors text names rows state ⌝ }
 {
-    let given = answers::state_in(state);
+    let given = codes::state_in(state);
     let r = reading::read(set, bytes, dir, cursors, text, names, rows, given);
     let s = r.state;
-    *state = answers::state_out(s);
+    *state = codes::state_out(s);
     let a = r.answer;
     answers::answered(a, s.names)
 }
@@ -38,10 +38,10 @@ pub fn read_block(
 ) -> u64
     ensures { λ r. ⌜ readsLeft r cursors text names rows state ≡ blockCallLent (rulesOf set) bytes dir count cursors text names rows state ⌝ }
 {
-    let given = answers::state_in(state);
+    let given = codes::state_in(state);
     let r = reading::read_block(set, bytes, dir, count, cursors, text, names, rows, given);
     let s = r.state;
-    *state = answers::state_out(s);
+    *state = codes::state_out(s);
     let a = r.answer;
     answers::answered(a, s.names)
 }

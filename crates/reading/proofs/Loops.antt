@@ -14,8 +14,8 @@ use Rattle.block.specs.declared.Verdict.the-variants.{Unsound, Outside, Inside}
 use Rattle.block.specs.Block.{opening, openOf, verdictOf}
 use Rattle.block.specs.Open.{Open}
 use Rattle.block.proofs.Laws.{judged-open, accepted, accepted-open, verdict-unsound, verdict-outside, verdict-inside}
-use Rattle.tokens.specs.Types.{Rules}
-use Rattle.kept.specs.Tables.{Kept, keeping}
+use Rattle.types.specs.Types.{Rules}
+use Rattle.tables.specs.Tables.{Kept, keeping, Table}
 use Rattle.kept.specs.Judgement.{counts}
 use Rattle.kept.specs.Inside.{Counted}
 use Rattle.kept.proofs.Laws.{counted, fresh-counted}
@@ -23,7 +23,7 @@ use Rattle.sources.specs.Source.{source}
 use Rattle.earlier.specs.Fits.{Known}
 use Rattle.entries.specs.declared.Reading.{Reading}
 use Rattle.entries.specs.declared.Answer.the-variants as answer
-use Rattle.entries.specs.Outcomes.{Outcome, outcome, refusingPlain, plain}
+use Rattle.outcomes.specs.Outcomes.{Outcome, outcome, refusingPlain, plain}
 use Rattle.inner.specs.Next.{nextOf}
 use Rattle.reads.specs.Reads.{readOf, fresh, readsFrom}
 use Rattle.reads.proofs.Holding.{read-next}
@@ -34,7 +34,7 @@ pub unknown : (m : Kept) {b : Bool} → b ≡ false → Known b m
 unknown m e q = absurd (never (sym e ∙ q))
 
 -- the public read
-module _ (rules : Rules) (bytes dir cur text names rows : List ℕ) (st : State) where
+module _ (rules : Rules) (bytes dir cur text names : List ℕ) (rows : Table) (st : State) where
   plain-is : {r : Reading} (n : ℕ) → r ≡ refusingPlain st n
       → outcome (r .answer) cur (keeping (r .state) text names rows) ≡ plain (source rules bytes dir cur) (keeping st text names rows) n
   unfolding refusingPlain plain
@@ -71,7 +71,7 @@ module _ (rules : Rules) (bytes dir cur text names rows : List ℕ) (st : State)
     read-is h q = let b = read-judged h in q ∙ sym (read-next rules bytes dir cur text names rows st (b .0) (b .1))
 
 -- a whole block
-module _ (rules : Rules) (bytes dir cur text names rows : List ℕ) (st : State) (count : ℕ) where
+module _ (rules : Rules) (bytes dir cur text names : List ℕ) (rows : Table) (st : State) (count : ℕ) where
   pub block-refused : {r : Refusal} {cur' : List ℕ} {a : Opened} → opening a cur' ≡ openOf (length bytes) dir count cur → a ≡ opened.Refused r
       → outcome (answer.Refused r) cur' (keeping st text names rows) ≡ blockOf (source rules bytes dir cur) (keeping st text names rows) count
   unfolding blockOf openedOf

@@ -5,10 +5,10 @@ use lib.ListN.{length}
 use Rattle.block.specs.declared.Opened.{Opened}
 use Rattle.block.specs.declared.Opened.the-variants as opened
 use Rattle.block.specs.Block.{openOf}
-use Rattle.kept.specs.Tables.{Kept, keeping}
+use Rattle.tables.specs.Tables.{Kept, keeping}
 use Rattle.sources.specs.Source.{Source}
 use Rattle.entries.specs.declared.Answer.the-variants as answer
-use Rattle.entries.specs.Outcomes.{Outcome, outcome}
+use Rattle.outcomes.specs.Outcomes.{Outcome, outcome}
 use Rattle.reads.specs.Reads.{fresh, readsFrom}
 
 -- every read keeps a name or is the last, so one more than the count are enough

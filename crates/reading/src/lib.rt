@@ -1,9 +1,9 @@
 // Reading: one name judged and then kept, one name a call, and a whole block.
 // What the public calls judge is what the inner read requires, so that a whole block judges it once.
 ghost use mathlib.Core.Path.{_≡_};
-ghost use Rattle.kept.specs.Tables.{tablesLent};
+ghost use Rattle.tables.specs.Tables.{tablesLent};
 ghost use Rattle.sources.specs.Source.{blockLent};
-ghost use Rattle.entries.specs.Outcomes.{leaves};
+ghost use Rattle.outcomes.specs.Outcomes.{leaves};
 ghost use Rattle.reads.specs.Reads.{readOf};
 ghost use Rattle.reading.specs.Blocks.{blockOf};
 use block::Block;
@@ -29,13 +29,13 @@ pub fn read(
     ensures { λ r. ⌜ leaves r cursors text entries rows ≡ readOf (blockLent set bytes dir cursors) (tablesLent state text entries rows) ⌝ }
 {
     match block::judge(bytes, dir, cursors) {
-        Verdict::Unsound => entries::refuse_plain(1, state),
-        Verdict::Outside => entries::refuse_plain(13, state),
+        Verdict::Unsound => outcomes::refuse_plain(1, state),
+        Verdict::Outside => outcomes::refuse_plain(13, state),
         Verdict::Inside => {
             if judgement::counts(state, text, entries, rows) {
                 reads::reads(set, false, bytes, dir, cursors, text, entries, rows, state)
             } else {
-                entries::refuse_plain(13, state)
+                outcomes::refuse_plain(13, state)
             }
         }
     }

@@ -1,14 +1,14 @@
 -- The rows of a name that is read point inside and are spelt, whatever the bytes are: what is kept need not be judged again.
-use Prim.Native.Nat.{ℕ, zero, suc, _+_, _-_, _*_, _^_, _≤_, _<_}
+use Prim.Native.Nat.{ℕ, zero, suc, _+_, _-_, _^_, _≤_, _<_}
 use mathlib.Core.Path.{_≡_, refl, sym, ap, _∙_, subst}
 use mathlib.Core.Bool.{true, false}
 use mathlib.Core.Logic.{⊎-elim}
-use mathlib.Core.List.{List, [], _++_}
+use mathlib.Core.List.{List, [], _∷_, _++_}
 use native.Mathlib.Omega.{arith}
 use native.Mathlib.Nat.{add-zero, eq-or-lt-of-le}
 use borrow.Author.Tests.{ltb-true, leb-true, le-leb, eqb-true}
 use lib.Dec.{leb, ltb, eqb}
-use lib.ListN.{length, getD, length-append, List·getD-append}
+use lib.ListN.{length, length-append, List·getD-append}
 use lib.Seq.{getD-append-add}
 use Rattle.base.specs.Choice.{pick}
 use Rattle.base.specs.Memory.{part}
@@ -30,19 +30,17 @@ use Rattle.block.specs.Block.{spanOf, endOf, cursorOf}
 use Rattle.block.specs.Open.{Open}
 use Rattle.block.proofs.Laws.{span-below}
 use Rattle.block.specs.Streams.{stringStream, charStream, digitsStream, ddeltaStream, ddelta0Stream}
-use Rattle.tokens.specs.declared.TokenType.{TokenType}
-use Rattle.tokens.specs.declared.TokenType.the-variants as type
+use Rattle.types.specs.declared.TokenType.{TokenType}
+use Rattle.types.specs.declared.TokenType.the-variants as type
 use Rattle.tokens.specs.declared.Token.{Token}
 use Rattle.tokens.specs.declared.Token.the-variants.{String, Char, Digits, Digits0}
-use Rattle.tokens.specs.Types.{typeOf}
+use Rattle.types.specs.Types.{typeOf}
 use Rattle.tokens.specs.Tokens.{bytesOf, kindOf, numberOf, widthOf, lengthOf, rowOf}
-use Rattle.tokens.proofs.Laws.{length-row}
-use Rattle.kept.specs.declared.Row.{Row}
-use Rattle.kept.specs.Tables.{rowSize, rowAt}
+use Rattle.tables.specs.declared.Row.{Row}
+use Rattle.tables.specs.Tables.{rowAt}
 use Rattle.kept.specs.Judgement.{rowKind}
 use Rattle.kept.specs.Inside.{RowInside}
 use Rattle.kept.proofs.Laws.{kind-inside, row-more}
-use Rattle.kept.proofs.Frame.{row-alike}
 use Rattle.values.specs.declared.Step.{Step}
 use Rattle.values.specs.declared.Step.the-variants as step
 use Rattle.sources.specs.Source.{Source, Earlier, byteIn, fourIn, textIn}
@@ -57,7 +55,7 @@ use Rattle.repeats.specs.Sound.{Rows}
 use Rattle.names.specs.Names.{Draft, draft, Named, named, refused, grown, ended, printable, onward, nameFrom, nameOf}
 use Rattle.repeating.specs.Repeats.{Spelt}
 use Rattle.names.proofs.Growing.{never-named, printable-short}
-use Rattle.reads.proofs.Spelling.{tokenRow, token-spelt}
+use Rattle.reads.proofs.Spelling.{rowIn, token-spelt}
 
 -- a token that prints as many bytes as its row says; a padded number fits its width
 abbrev Whole : List ℕ → List ℕ → Token → Type 0
@@ -73,8 +71,8 @@ whole-length bytes text (Char b) w = refl
 whole-length bytes text (Digits n) w = refl
 whole-length bytes text (Digits0 p) w = length-padded (p .number) (p .width)
 
-whole-kind : (bytes text : List ℕ) (t : Token) (at : ℕ) → Whole bytes text t → lengthOf t ≤ 254 → rowKind (tokenRow t at) ≡ true
-unfolding lengthOf rowKind kindOf numberOf widthOf pick
+whole-kind : (bytes text : List ℕ) (t : Token) (at : ℕ) → Whole bytes text t → lengthOf t ≤ 254 → rowKind (rowOf t at) ≡ true
+unfolding lengthOf rowKind rowOf kindOf numberOf widthOf pick
 whole-kind bytes text (String t) at w h = refl
 whole-kind bytes text (Char b) at w h = refl
 whole-kind bytes text (Digits n) at w h = refl
@@ -182,27 +180,21 @@ module _ (s : Source) (e : Earlier) where
     step-fine = typed-fine (byteIn s p 0)
 
 -- a row behind n others
-module _ (a : List ℕ) (n : ℕ) (t : Token) (at : ℕ) (whole : length a ≡ rowSize * n) where
-  number-behind : (k : ℕ) → getD (a ++ rowOf t at) (rowSize * n + k) 0 ≡ getD (rowOf t at) k 0
-  number-behind k = ap (λ (m : ℕ). getD (a ++ rowOf t at) (m + k) 0) (sym whole) ∙ getD-append-add a (rowOf t at) k 0
+module _ (a : List Row) (n : ℕ) (t : Token) (at : ℕ) (whole : length a ≡ n) where
+  row-behind : rowIn (a ++ (rowOf t at ∷ [])) n ≡ rowOf t at
+  row-behind = ap (rowIn (a ++ (rowOf t at ∷ []))) (sym whole ∙ sym (add-zero (length a))) ∙ getD-append-add a (rowOf t at ∷ []) 0 _
 
-  row-behind : rowAt (a ++ rowOf t at) n ≡ tokenRow t at
-  unfolding rowAt rowOf
-  row-behind =
-      let z : getD (a ++ rowOf t at) (rowSize * n) 0 ≡ kindOf t = ap (λ (m : ℕ). getD (a ++ rowOf t at) m 0) (sym (add-zero (rowSize * n))) ∙ number-behind 0 in
-      rw (z, number-behind 1, number-behind 2, number-behind 3, number-behind 4)
-
-  row-before : (j : ℕ) → j < n → rowAt (a ++ rowOf t at) j ≡ rowAt a j
-  row-before = row-alike (a ++ rowOf t at) a n (λ j l. List·getD-append a (rowOf t at) 0 j (omega arith))
+  row-before : (j : ℕ) → j < n → rowIn (a ++ (rowOf t at ∷ [])) j ≡ rowIn a j
+  row-before j l = List·getD-append a (rowOf t at ∷ []) _ j (omega arith)
 
 -- the rows of a name as far as it is read, `used` bytes of text being kept before it
 pub record Rowed (used : ℕ) (d : Draft) : Type 0 where
-  pub whole : length (d .rows) ≡ rowSize * d .count
-  pub each : (j : ℕ) → j < d .count → RowInside (used + length (d .text)) (rowAt (d .rows) j)
-  pub spelt : (text : List ℕ) → Holds text used (d .text) → (j : ℕ) → j < d .count → Spelt text (rowAt (d .rows) j)
-  pub laid : (j : ℕ) → j + 1 < d .count → rowAt (d .rows) (j + 1) .start ≡ rowAt (d .rows) j .start + rowAt (d .rows) j .length
-  pub last : (j : ℕ) → j + 1 ≡ d .count → rowAt (d .rows) j .start + rowAt (d .rows) j .length ≡ used + length (d .text)
-  pub from : (j : ℕ) → j < d .count → (used ≤ rowAt (d .rows) j .start) × (j ≡ 0 → rowAt (d .rows) j .start ≡ used)
+  pub whole : length (d .rows) ≡ d .count
+  pub each : (j : ℕ) → j < d .count → RowInside (used + length (d .text)) (rowIn (d .rows) j)
+  pub spelt : (text : List ℕ) → Holds text used (d .text) → (j : ℕ) → j < d .count → Spelt text (rowIn (d .rows) j)
+  pub laid : (j : ℕ) → j + 1 < d .count → rowIn (d .rows) (j + 1) .start ≡ rowIn (d .rows) j .start + rowIn (d .rows) j .length
+  pub last : (j : ℕ) → j + 1 ≡ d .count → rowIn (d .rows) j .start + rowIn (d .rows) j .length ≡ used + length (d .text)
+  pub from : (j : ℕ) → j < d .count → (used ≤ rowIn (d .rows) j .start) × (j ≡ 0 → rowIn (d .rows) j .start ≡ used)
   pub none : d .count ≡ 0 → length (d .text) ≡ 0
 
 -- 8 left every byte allowed
@@ -212,25 +204,25 @@ printable-allowed b n q = both-true (allAllowed b) (leb (n + length b) 254) q .0
 
 module _ (s : Source) (e : Earlier) (used p : ℕ) (t : Token) (c : ℕ) (d : Draft) where
   grown-rowed : Whole (s .bytes) (e .text) t → printable (bytesOf (s .bytes) (e .text) t) (length (d .text)) ≡ true → Rowed used d → Rowed used (grown s e used p t c d)
-  unfolding grown
+  unfolding grown rowOf
   grown-rowed w y r =
       let b = bytesOf (s .bytes) (e .text) t in
       let at = used + length (d .text) in
       let m = printable-short b (length (d .text)) y in
       let l : length b ≡ lengthOf t = whole-length (s .bytes) (e .text) t w in
       let n : length (d .text ++ b) ≡ length (d .text) + length b = length-append (d .text) b in
-      let here : RowInside (used + length (d .text ++ b)) (tokenRow t at) =
-      record { ends = omega arith; kind = kind-inside (tokenRow t at) (whole-kind (s .bytes) (e .text) t at w (omega arith)) } in
-      let new : (j : ℕ) → j ≡ d .count → rowAt (d .rows ++ rowOf t at) j ≡ tokenRow t at =
-      λ j q. ap (rowAt (d .rows ++ rowOf t at)) q ∙ row-behind (d .rows) (d .count) t at (r .whole) in
-      let old : (j : ℕ) → j < d .count → rowAt (d .rows ++ rowOf t at) j ≡ rowAt (d .rows) j = row-before (d .rows) (d .count) t at (r .whole) in
+      let here : RowInside (used + length (d .text ++ b)) (rowOf t at) =
+      record { ends = omega arith; kind = kind-inside (rowOf t at) (whole-kind (s .bytes) (e .text) t at w (omega arith)) } in
+      let new : (j : ℕ) → j ≡ d .count → rowIn (d .rows ++ (rowOf t at ∷ [])) j ≡ rowOf t at =
+      λ j q. ap (rowIn (d .rows ++ (rowOf t at ∷ []))) q ∙ row-behind (d .rows) (d .count) t at (r .whole) in
+      let old : (j : ℕ) → j < d .count → rowIn (d .rows ++ (rowOf t at ∷ [])) j ≡ rowIn (d .rows) j = row-before (d .rows) (d .count) t at (r .whole) in
       record {
-        whole = length-append (d .rows) (rowOf t at) ∙ omega (arith, length-row t at, r .whole);
+        whole = length-append (d .rows) (rowOf t at ∷ []) ∙ omega (arith, r .whole);
         each = λ j h.
             ⊎-elim
             (λ q. subst (RowInside (used + length (d .text ++ b))) (sym (new j q)) here)
             (λ q. subst (RowInside (used + length (d .text ++ b))) (sym (old j q))
-            (row-more at (used + length (d .text ++ b)) (omega arith) (rowAt (d .rows) j) (r .each j q)))
+            (row-more at (used + length (d .text ++ b)) (omega arith) (rowIn (d .rows) j) (r .each j q)))
             (eq-or-lt-of-le {n = j} {m = d .count} (omega arith));
         spelt = λ text k j h.
             ⊎-elim

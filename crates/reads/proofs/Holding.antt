@@ -20,14 +20,14 @@ use Rattle.block.specs.Block.{allAtEnd}
 use Rattle.block.specs.Open.{Open}
 use Rattle.block.proofs.Laws.{open-sound, open-inside}
 use Rattle.block.specs.Streams.{dupStream, diffStream}
-use Rattle.tokens.specs.Types.{Rules}
-use Rattle.kept.specs.declared.Entry.{Entry}
-use Rattle.kept.specs.declared.Row.{Row}
-use Rattle.kept.specs.Tables.{entrySize, rowSize, Kept, keeping, entryAt, rowAt}
+use Rattle.types.specs.Types.{Rules}
+use Rattle.tables.specs.declared.Entry.{Entry}
+use Rattle.tables.specs.declared.Row.{Row}
+use Rattle.tables.specs.Tables.{entrySize, Kept, keeping, entryAt, rowAt, Table, putRows, rowRoom}
 use Rattle.kept.specs.Judgement.{earlierFits}
 use Rattle.kept.specs.Inside.{Counted, EntryInside, RowInside}
 use Rattle.kept.proofs.Laws.{earlier, earlier-fits-of, counts-of, row-more}
-use Rattle.kept.proofs.Frame.{Alike, alike-written, entry-alike, entry-written, row-written, one-entry, entry-more, earlier-more}
+use Rattle.kept.proofs.Frame.{Alike, alike-written, entry-alike, entry-written, one-entry, entry-more, earlier-more}
 use Rattle.sources.specs.Source.{source, Earlier}
 use Rattle.sources.specs.Source as steps
 use Rattle.repeats.specs.Sound.{Rows}
@@ -36,12 +36,13 @@ use Rattle.names.specs.Names.{Draft, draft, Named, named, refused, nameOf}
 use Rattle.repeating.specs.Repeats.{Spelt, RowsSpelt}
 use Rattle.names.proofs.Frames.{name-bounds, name-open}
 use Rattle.repeating.proofs.Spelling.{rows-spelt-same}
-use Rattle.heads.specs.declared.Head.{Head}
-use Rattle.heads.specs.declared.Head.the-variants as head
+use Rattle.distances.specs.declared.Head.{Head}
+use Rattle.distances.specs.declared.Head.the-variants as head
 use Rattle.entries.specs.declared.Answer.the-variants as answer
 use Rattle.heads.specs.Headed.{Headed}
-use Rattle.entries.specs.Outcomes.{Outcome, outcome, plain, atName}
-use Rattle.entries.specs.Entries.{roomFor, entryOf, stateAfter, kept, keepOf}
+use Rattle.outcomes.specs.Outcomes.{Outcome, outcome, plain, atName}
+use Rattle.outcomes.specs.Keeping.{roomFor, kept, keepOf}
+use Rattle.entries.specs.Entries.{entryOf, stateAfter}
 use Rattle.heads.specs.Heads.{headPast, headOf}
 use Rattle.copying.specs.Copies.{dupOf}
 use Rattle.naming.specs.Naming.{namedOf, diffOf}
@@ -53,7 +54,9 @@ use Rattle.earlier.specs.Fits.{AllFit, AllSpelt}
 use Rattle.heads.proofs.Heads.{head-same, head-open, dup-told, diff-told}
 use Rattle.entries.proofs.Entries.{has-room}
 use Rattle.earlier.proofs.Leaning.{back-entry}
+use Rattle.reads.proofs.Spelling.{rowIn}
 use Rattle.reads.proofs.Fitting.{Rowed, name-rowed}
+use Rattle.tables.proofs.Rows.{SameRows, below-put, within-put, room-put}
 
 -- a read that keeps a name, after m
 pub record More (m : Kept) (o : Outcome) : Type 0 where
@@ -78,23 +81,27 @@ done-not q = let z : _≡_ {A = ℕ} 0 1 = cc in omega arith
 abbrev entered : State → ℕ → ℕ → ℕ → ℕ → Entry
 entered st size first many distance = record { start = st .text; length = size; first = first; rows = many; distance = distance }
 
+-- a row that was put
+new-row : (rows : Table) (n : ℕ) (more : List Row) (i j : ℕ) → n ≤ rowRoom rows → i ≡ n + j → j < length more → rowAt (putRows rows n more) i ≡ rowIn more j
+new-row rows n more i j room is l = ap (rowAt (putRows rows n more)) is ∙ within-put rows n more room j _ l
+
 -- rows kept before stay spelt
-old-spelt : (st : State) (text names rows : List ℕ) → Counted (keeping st text names rows) → (put more : List ℕ) (x : Entry) → EntryInside st rows x
+old-spelt : (st : State) (text names : List ℕ) (rows : Table) → Counted (keeping st text names rows) → (put : List ℕ) (more : List Row) (x : Entry) → EntryInside st rows x
     → RowsSpelt (steps.earlier text rows (x .first) (x .rows))
-    → RowsSpelt (steps.earlier (written text (st .text) put) (written rows (rowSize * st .rows) more) (x .first) (x .rows))
+    → RowsSpelt (steps.earlier (written text (st .text) put) (putRows rows (st .rows) more) (x .first) (x .rows))
 old-spelt st text names rows k put more x i =
-    rows-spelt-same text (written text (st .text) put) rows (written rows (rowSize * st .rows) more) (x .first) (x .rows) (st .text) (i .each)
+    rows-spelt-same text (written text (st .text) put) rows (putRows rows (st .rows) more) (x .first) (x .rows) (st .text) (i .each)
     (sym (take-written text (st .text) put (st .text) (omega arith) (k .used)))
-    (λ j l. sym (alike-written rows (rowSize * st .rows) more (rowSize * st .rows) (omega arith) (k .rowsUsed) j (omega (arith, i .rows .ends))))
+    (λ j l. sym (below-put rows (st .rows) more (st .rows) (omega arith) (k .rowsUsed) j (omega (arith, i .rows .ends))))
 
 -- with a name more, whose entry and rows are inside, all are; and where all were spelt and its rows are, all are
-module _ (st : State) (text names rows : List ℕ) (k : Counted (keeping st text names rows)) (size added first many distance : ℕ) (put more : List ℕ)
-    (inner : EntryInside (stateAfter st size added) (written rows (rowSize * st .rows) more) (entered st size first many distance)) where
+module _ (st : State) (text names : List ℕ) (rows : Table) (k : Counted (keeping st text names rows)) (size added first many distance : ℕ) (put : List ℕ) (more : List Row)
+    (inner : EntryInside (stateAfter st size added) (putRows rows (st .rows) more) (entered st size first many distance)) where
   abbrev after : Kept
-  after = keeping (stateAfter st size added) (written text (st .text) put) (written names (entrySize * st .names) (entryOf st size first many distance)) (written rows (rowSize * st .rows) more)
+  after = keeping (stateAfter st size added) (written text (st .text) put) (written names (entrySize * st .names) (entryOf st size first many distance)) (putRows rows (st .rows) more)
 
-  rows-stay : Alike rows (written rows (rowSize * st .rows) more) (rowSize * st .rows)
-  rows-stay j l = sym (alike-written rows (rowSize * st .rows) more (rowSize * st .rows) (omega arith) (k .rowsUsed) j l)
+  rows-stay : SameRows rows (putRows rows (st .rows) more) (st .rows)
+  rows-stay j l = sym (below-put rows (st .rows) more (st .rows) (omega arith) (k .rowsUsed) j l)
 
   names-stay : Alike names (written names (entrySize * st .names) (entryOf st size first many distance)) (entrySize * st .names)
   names-stay j l = sym (alike-written names (entrySize * st .names) (entryOf st size first many distance) (entrySize * st .names) (omega arith) (k .entries) j l)
@@ -108,12 +115,12 @@ module _ (st : State) (text names rows : List ℕ) (k : Counted (keeping st text
   fit-more f i l =
       earlier-fits-of after i
       (⊎-elim
-      (λ e. subst (λ (x : Entry). EntryInside (stateAfter st size added) (written rows (rowSize * st .rows) more) x) (sym (new-entry i e)) inner)
+      (λ e. subst (λ (x : Entry). EntryInside (stateAfter st size added) (putRows rows (st .rows) more) x) (sym (new-entry i e)) inner)
       (λ h. earlier-more (keeping st text names rows) after (st .names) (omega arith) (omega arith) names-stay rows-stay i h (earlier (keeping st text names rows) i (f i h)))
       (eq-or-lt-of-le {n = i} {m = st .names} (omega arith)))
 
   abbrev Spells : Entry → Type 0
-  Spells x = RowsSpelt (steps.earlier (written text (st .text) put) (written rows (rowSize * st .rows) more) (x .first) (x .rows))
+  Spells x = RowsSpelt (steps.earlier (written text (st .text) put) (putRows rows (st .rows) more) (x .first) (x .rows))
 
   spelt-more : Spells (entered st size first many distance) → AllFit (keeping st text names rows) → AllSpelt (keeping st text names rows) → AllSpelt after
   unfolding rowsOf
@@ -124,14 +131,14 @@ module _ (st : State) (text names rows : List ℕ) (k : Counted (keeping st text
       (old-spelt st text names rows k put more (entryAt names i) (earlier (keeping st text names rows) i (f i h)) (s i h)))
       (eq-or-lt-of-le {n = i} {m = st .names} (omega arith))
 
-module _ (st : State) (text names rows : List ℕ) (k : Counted (keeping st text names rows)) where
+module _ (st : State) (text names : List ℕ) (rows : Table) (k : Counted (keeping st text names rows)) where
   -- a copy has the earlier name's rows
   copy-inner : (x : Entry) (size distance : ℕ) → size ≡ x .length → EntryInside st rows x
-      → EntryInside (stateAfter st size 0) (written rows (rowSize * st .rows) []) (entered st size (x .first) (x .rows) distance)
+      → EntryInside (stateAfter st size 0) (putRows rows (st .rows) []) (entered st size (x .first) (x .rows) distance)
   copy-inner x size distance e i =
-      let w : EntryInside (stateAfter st size 0) (written rows (rowSize * st .rows) []) x =
-      entry-more st (stateAfter st size 0) rows (written rows (rowSize * st .rows) []) (omega arith) (omega arith)
-      (λ j l. sym (alike-written rows (rowSize * st .rows) [] (rowSize * st .rows) (omega arith) (k .rowsUsed) j l)) x i in
+      let w : EntryInside (stateAfter st size 0) (putRows rows (st .rows) []) x =
+      entry-more st (stateAfter st size 0) rows (putRows rows (st .rows) []) (omega arith) (omega arith)
+      (λ j l. sym (below-put rows (st .rows) [] (st .rows) (omega arith) (k .rowsUsed) j l)) x i in
       record {
         text = record { some = omega (arith, i .text .some); most = omega (arith, i .text .most); ends = omega arith };
         rows = record { some = i .rows .some; most = i .rows .most; ends = w .rows .ends };
@@ -140,24 +147,24 @@ module _ (st : State) (text names rows : List ℕ) (k : Counted (keeping st text
 
   -- a name that was read has its own
   named-inner : (D : Draft) (distance : ℕ) → 1 ≤ length (D .text) → length (D .text) ≤ 254 → 1 ≤ D .count → D .count ≤ 127 → Rowed (st .text) D
-      → EntryInside (stateAfter st (length (D .text)) (D .count)) (written rows (rowSize * st .rows) (D .rows)) (entered st (length (D .text)) (st .rows) (D .count) distance)
+      → EntryInside (stateAfter st (length (D .text)) (D .count)) (putRows rows (st .rows) (D .rows)) (entered st (length (D .text)) (st .rows) (D .count) distance)
   named-inner D distance some short one most r =
       record {
         text = record { some = some; most = short; ends = omega arith };
         rows = record { some = one; most = most; ends = omega arith };
         each = λ j a b.
             subst (λ (x : Row). RowInside (st .text + length (D .text) + 1) x)
-            (sym (row-written rows (st .rows) (D .rows) j (j - st .rows) (k .rowsUsed) (omega arith) (omega (arith, r .whole))))
-            (row-more (st .text + length (D .text)) (st .text + length (D .text) + 1) (omega arith) (rowAt (D .rows) (j - st .rows)) (r .each (j - st .rows) (omega arith)));
+            (sym (new-row rows (st .rows) (D .rows) j (j - st .rows) (k .rowsUsed) (omega arith) (omega (arith, r .whole))))
+            (row-more (st .text + length (D .text)) (st .text + length (D .text) + 1) (omega arith) (rowIn (D .rows) (j - st .rows)) (r .each (j - st .rows) (omega arith)));
       }
 
   named-spelt : (D : Draft) → Rowed (st .text) D
-      → RowsSpelt (steps.earlier (written text (st .text) (D .text ++ (10 ∷ []))) (written rows (rowSize * st .rows) (D .rows)) (st .rows) (D .count))
+      → RowsSpelt (steps.earlier (written text (st .text) (D .text ++ (10 ∷ []))) (putRows rows (st .rows) (D .rows)) (st .rows) (D .count))
   named-spelt D r =
       let text' = written text (st .text) (D .text ++ (10 ∷ [])) in
       let t = holds-left text' (st .text) (D .text) (10 ∷ []) (holds-written text (st .text) (D .text ++ (10 ∷ [])) (k .used)) in
-      let row : (j i : ℕ) → j ≡ st .rows + i → i < D .count → rowAt (written rows (rowSize * st .rows) (D .rows)) j ≡ rowAt (D .rows) i =
-      λ j i e l. row-written rows (st .rows) (D .rows) j i (k .rowsUsed) e (omega (arith, r .whole)) in
+      let row : (j i : ℕ) → j ≡ st .rows + i → i < D .count → rowAt (putRows rows (st .rows) (D .rows)) j ≡ rowIn (D .rows) i =
+      λ j i e l. new-row rows (st .rows) (D .rows) j i (k .rowsUsed) e (omega (arith, r .whole)) in
       record {
         each = λ j a b. subst (Spelt text') (sym (row j (j - st .rows) (omega arith) (omega arith))) (r .spelt text' t (j - st .rows) (omega arith));
         laid = λ j a b.
@@ -166,7 +173,7 @@ module _ (st : State) (text names rows : List ℕ) (k : Counted (keeping st text
             ∙ sym (ap (λ (x : Row). x .start + x .length) (row j (j - st .rows) (omega arith) (omega arith)));
       }
 
-module _ (rules : Rules) (bytes dir cur text names rows : List ℕ) (st : State) (o : Open bytes dir cur) (k : Counted (keeping st text names rows)) where
+module _ (rules : Rules) (bytes dir cur text names : List ℕ) (rows : Table) (st : State) (o : Open bytes dir cur) (k : Counted (keeping st text names rows)) where
   at-holds : (n : ℕ) → Holds bytes dir (keeping st text names rows) (atName (source rules bytes dir cur) (keeping st text names rows) n)
   unfolding atName
   at-holds n = record { opened = o; counted = k; fits = λ f. f; spelt = λ f s. s; more = λ i q. absurd (refused-not q) }
@@ -180,9 +187,9 @@ module _ (rules : Rules) (bytes dir cur text names rows : List ℕ) (st : State)
 
   module _ (few : st .names < st .count) where
     module _ (d : Draft) (first many distance : ℕ) (p : Open bytes dir (d .cur)) (short : length (d .text) ≤ 254) (most : d .count ≤ 127)
-        (whole : length (d .rows) ≡ rowSize * d .count)
-        (inner : EntryInside (stateAfter st (length (d .text)) (d .count)) (written rows (rowSize * st .rows) (d .rows)) (entered st (length (d .text)) first many distance))
-        (mine : AllSpelt (keeping st text names rows) → RowsSpelt (steps.earlier (written text (st .text) (d .text ++ (10 ∷ []))) (written rows (rowSize * st .rows) (d .rows)) first many)) where
+        (whole : length (d .rows) ≡ d .count)
+        (inner : EntryInside (stateAfter st (length (d .text)) (d .count)) (putRows rows (st .rows) (d .rows)) (entered st (length (d .text)) first many distance))
+        (mine : AllSpelt (keeping st text names rows) → RowsSpelt (steps.earlier (written text (st .text) (d .text ++ (10 ∷ []))) (putRows rows (st .rows) (d .rows)) first many)) where
       kept-holds : roomFor (keeping st text names rows) d ≡ true → Holds bytes dir (keeping st text names rows) (kept (keeping st text names rows) d first many distance)
       unfolding roomFor kept
       kept-holds h =
@@ -190,7 +197,7 @@ module _ (rules : Rules) (bytes dir cur text names rows : List ℕ) (st : State)
           let t = length-append (d .text) (10 ∷ []) in
           let lt = length-written text (st .text) (d .text ++ (10 ∷ [])) (omega (arith, r .texts)) in
           let ln = length-written names (entrySize * st .names) (entryOf st (length (d .text)) first many distance) (omega (arith, r .entries)) in
-          let lr = length-written rows (rowSize * st .rows) (d .rows) (omega (arith, r .table)) in
+          let lr = room-put rows (st .rows) (d .rows) (omega (arith, r .table)) in
           record {
             opened = p;
             counted =

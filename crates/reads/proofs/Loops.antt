@@ -9,14 +9,14 @@ use Rattle.base.specs.Choice.{pick, both}
 use Rattle.base.proofs.Choice.{both-true, by-test, pick-true, pick-false, never}
 use Rattle.block.specs.declared.State.{State}
 use Rattle.block.specs.Open.{Open}
-use Rattle.tokens.specs.Types.{Rules}
-use Rattle.kept.specs.Tables.{Kept, keeping}
+use Rattle.types.specs.Types.{Rules}
+use Rattle.tables.specs.Tables.{Kept, keeping, Table}
 use Rattle.kept.specs.Inside.{Counted}
 use Rattle.sources.specs.Source.{source}
 use Rattle.earlier.specs.Fits.{Known}
 use Rattle.entries.specs.declared.Answer.{Answer}
 use Rattle.entries.specs.declared.Answer.the-variants as answer
-use Rattle.entries.specs.Outcomes.{Outcome}
+use Rattle.outcomes.specs.Outcomes.{Outcome}
 use Rattle.inner.specs.Next.{nextOf}
 use Rattle.reads.specs.Reads.{isKept, fresh, goOn, readsFrom}
 use Rattle.reads.proofs.Holding.{More, Holds, next-holds, read-next}
@@ -47,7 +47,7 @@ pub record Reads (rules : Rules) (bytes dir : List ℕ) (whole : Bool) (all : Ou
   pub known : Known whole m
   pub goes : pick whole (readsFrom rules bytes dir (m .state .count - m .state .names + 1) (fresh cur m)) (nextOf (source rules bytes dir cur) m) ≡ all
 
-module _ (rules : Rules) (bytes dir : List ℕ) (whole : Bool) (all : Outcome) (cur text names rows : List ℕ) (st : State) (i : Reads rules bytes dir whole all cur (keeping st text names rows))
+module _ (rules : Rules) (bytes dir : List ℕ) (whole : Bool) (all : Outcome) (cur text names : List ℕ) (rows : Table) (st : State) (i : Reads rules bytes dir whole all cur (keeping st text names rows))
     (o : Outcome) (e : o ≡ nextOf (source rules bytes dir cur) (keeping st text names rows)) where
   one : whole ≡ true → goOn (readsFrom rules bytes dir (st .count - st .names)) o (o .answer) ≡ all
   unfolding readsFrom

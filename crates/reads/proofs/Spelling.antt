@@ -12,19 +12,19 @@ use Rattle.base.proofs.Memory.{getD-part}
 use Rattle.classes.specs.Classes.{allAllowed}
 use Rattle.tokens.specs.declared.Token.{Token}
 use Rattle.tokens.specs.declared.Token.the-variants.{String, Char, Digits, Digits0}
-use Rattle.tokens.specs.Tokens.{bytesOf, kindOf, numberOf, widthOf, lengthOf}
-use Rattle.kept.specs.declared.Row.{Row}
+use Rattle.tokens.specs.Tokens.{bytesOf, rowOf, kindOf, numberOf, widthOf, lengthOf}
+use Rattle.tables.specs.declared.Row.{Row}
 use Rattle.repeats.specs.Repeats.{tokenOf}
 use Rattle.repeating.specs.Repeats.{Spelt}
 
--- the row of a token
-abbrev pub tokenRow : Token → ℕ → Row
-tokenRow t at = record { kind = kindOf t; number = numberOf t; width = widthOf t; start = at; length = lengthOf t }
+-- a new name's row of a number, and where there is none a row of zeros
+abbrev pub rowIn : List Row → ℕ → Row
+rowIn rows j = getD rows j (record { kind = 0; number = 0; width = 0; start = 0; length = 0 })
 
 -- where a token's bytes stand in the text, its row is spelt
 pub token-spelt : (bytes kept text : List ℕ) (t : Token) (at : ℕ) → part text at (at + lengthOf t) ≡ bytesOf bytes kept t
-    → allAllowed (bytesOf bytes kept t) ≡ true → Spelt text (tokenRow t at)
-unfolding tokenOf bytesOf kindOf numberOf widthOf lengthOf pick
+    → allAllowed (bytesOf bytes kept t) ≡ true → Spelt text (rowOf t at)
+unfolding tokenOf bytesOf rowOf kindOf numberOf widthOf lengthOf pick
 token-spelt bytes kept text (String t) at e a = record {
   kind = refl;
   number = refl;

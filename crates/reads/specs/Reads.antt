@@ -5,13 +5,13 @@ use mathlib.Core.List.{List}
 use lib.ListN.{length}
 use Rattle.base.specs.Choice.{pick}
 use Rattle.block.specs.Block.{sound, allInside}
-use Rattle.tokens.specs.Types.{Rules}
-use Rattle.kept.specs.Tables.{Kept}
+use Rattle.types.specs.Types.{Rules}
+use Rattle.tables.specs.Tables.{Kept}
 use Rattle.kept.specs.Judgement.{counts}
 use Rattle.sources.specs.Source.{Source, source}
 use Rattle.entries.specs.declared.Answer.{Answer}
 use Rattle.entries.specs.declared.Answer.the-variants as answer
-use Rattle.entries.specs.Outcomes.{Outcome, outcome, plain}
+use Rattle.outcomes.specs.Outcomes.{Outcome, outcome, plain}
 use Rattle.inner.specs.Next.{nextOf}
 
 -- reading: 1; 13 for the counts and cursors; then the rest

@@ -2,11 +2,11 @@
 ghost use mathlib.Core.Path.{_≡_};
 ghost use Rattle.base.specs.Choice.{both};
 ghost use Rattle.block.specs.Open.{Open};
-ghost use Rattle.kept.specs.Tables.{keeping, tablesLent};
+ghost use Rattle.tables.specs.Tables.{keeping, tablesLent, inRows};
 ghost use Rattle.kept.specs.Inside.{Counted};
 ghost use Rattle.sources.specs.Source.{blockLent};
 ghost use Rattle.earlier.specs.Fits.{Known};
-ghost use Rattle.entries.specs.Outcomes.{leaves};
+ghost use Rattle.outcomes.specs.Outcomes.{leaves};
 ghost use Rattle.reads.specs.Reads.{isKept, wholeOrOne};
 use block::Setting;
 use block::State;
@@ -43,8 +43,8 @@ pub fn reads(
     state: State,
 ) -> Reading
     requires { ⌜ Open (now bytes) (now dir) (now cursors) ⌝ }
-    requires { ⌜ Counted (keeping state (now text) (now entries) (now rows)) ⌝ }
-    requires { ⌜ Known whole (keeping state (now text) (now entries) (now rows)) ⌝ }
+    requires { ⌜ Counted (keeping state (now text) (now entries) (inRows (now rows))) ⌝ }
+    requires { ⌜ Known whole (keeping state (now text) (now entries) (inRows (now rows))) ⌝ }
     ensures { λ r. ⌜ leaves r cursors text entries rows ≡ wholeOrOne whole (blockLent set bytes dir cursors) (tablesLent state text entries rows) ⌝ }
 {
     let mut so_far = state;

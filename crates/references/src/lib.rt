@@ -24,7 +24,7 @@ pub fn reference_of(n: u32, before: &[u8], name: &[u8]) -> Reference
     if is_anew(n) {
         return Reference::Diff(Distance(0));
     }
-    if base::same(before, name) {
+    if comparing::same(before, name) {
         return Reference::Dup(Distance(1));
     }
     Reference::Diff(Distance(1))

@@ -1,15 +1,14 @@
 -- What repeating the rows of a run asks for, and what it puts down.
 use Prim.Native.Nat.{ℕ, zero, suc, _+_, _-_, _*_, _^_, _≤_, _<_}
 use mathlib.Core.Path.{_≡_, ap, _∙_}
-use mathlib.Core.List.{List, []}
+use mathlib.Core.List.{List, [], _∷_}
 use native.Mathlib.Omega.{arith}
-use lib.ListN.{length, getD}
+use lib.ListN.{length}
 use Rattle.base.specs.Memory.{written, part}
-use Rattle.base.proofs.Memory.{written-next, written-none}
 use Rattle.block.specs.Block.{spanOf, cursorOf}
-use Rattle.kept.specs.declared.Row.{Row}
-use Rattle.kept.specs.Tables.{rowSize, rowAt, rowNumbers}
-use Rattle.kept.proofs.Frame.{Alike, alike-written}
+use Rattle.tables.specs.declared.Row.{Row}
+use Rattle.tables.specs.Tables.{Table, rowRoom, rowAt, putRows}
+use Rattle.tables.proofs.Rows.{SameRows, below-put, put-none, put-next}
 use Rattle.sources.specs.Source.{earlier}
 use Rattle.repeats.specs.Sound.{Rows}
 use Rattle.moving.specs.Moves.{past}
@@ -37,33 +36,31 @@ pub length-typed : (cur : List ℕ) (p : ℕ) {now : List ℕ} → now ≡ past 
 length-typed cur p e = ap length e ∙ length-past cur (spanOf p 0) 1
 
 -- a turn of the loop over the rows
-pub rows-over : (base rows : List ℕ) (at i f start : ℕ) → f ≡ 0 → written rows at (movedRows base i f start) ≡ rows
+pub rows-over : (base rows : Table) (k i f start : ℕ) → f ≡ 0 → putRows rows k (movedRows base i f start) ≡ rows
 unfolding movedRows
-rows-over base rows at i f start h = rw h (written-none rows at [])
+rows-over base rows k i f start h = rw h (put-none rows k)
 
-module _ (base rows : List ℕ) (k i f g start : ℕ) (h : f ≡ suc g) (r : Row) (e : r ≡ rowAt base i) (fits : rowSize * k + rowSize ≤ length rows) where
-  pub rows-turn : {now : List ℕ} → now ≡ written rows (rowSize * k) (rowNumbers (movedRow r start))
-      → written now (rowSize * (k + 1)) (movedRows base (i + 1) g (start + r .length)) ≡ written rows (rowSize * k) (movedRows base i f start)
+module _ (base rows : Table) (k i f g start : ℕ) (h : f ≡ suc g) (r : Row) (e : r ≡ rowAt base i) (fits : k < rowRoom rows) where
+  pub rows-turn : {now : Table} → now ≡ putRows rows k (movedRow r start ∷ [])
+      → putRows now (k + 1) (movedRows base (i + 1) g (start + r .length)) ≡ putRows rows k (movedRows base i f start)
   unfolding movedRows
-  rows-turn {now} q =
-      let n : rowSize * (k + 1) ≡ rowSize * k + rowSize = omega arith in
-      rw (h, ← e, n, q) (written-next rows (rowSize * k) (rowNumbers (movedRow r start)) (movedRows base (i + 1) g (start + r .length)) fits)
+  rows-turn {now} q = rw (h, ← e, q) (put-next rows k (movedRow r start ∷ []) (movedRows base (i + 1) g (start + r .length)) (omega arith))
 
-pub alike-more : (base rows : List ℕ) (at : ℕ) (s : List ℕ) (n : ℕ) {now : List ℕ} → Alike rows base n → n ≤ at → at ≤ length rows → now ≡ written rows at s → Alike now base n
-alike-more base rows at s n a h l q j k = ap (λ (x : List ℕ). getD x j 0) q ∙ alike-written rows at s n h l j k ∙ a j k
+pub alike-more : (base rows : Table) (k : ℕ) (rs : List Row) (n : ℕ) {now : Table} → SameRows rows base n → n ≤ k → k ≤ rowRoom rows → now ≡ putRows rows k rs → SameRows now base n
+alike-more base rows k rs n a h l q j b = ap (λ (x : Table). rowAt x j) q ∙ below-put rows k rs n h l j b ∙ a j b
 
 -- how many bytes n rows from row i on have, one by one
-unfoldable pub textSize : List ℕ → ℕ → ℕ → ℕ
+unfoldable pub textSize : Table → ℕ → ℕ → ℕ
 textSize rows i zero = 0
 textSize rows i (suc n) = rowAt rows i .length + textSize rows (i + 1) n
 
-pub size-more : (rows : List ℕ) (n m i : ℕ) → textSize rows i n ≤ textSize rows i (n + m)
+pub size-more : (rows : Table) (n m i : ℕ) → textSize rows i n ≤ textSize rows i (n + m)
 unfolding textSize
 size-more rows zero m i = omega arith
 size-more rows (suc n) m i = let e : suc n + m ≡ suc (n + m) = omega arith in let k = size-more rows n m (i + 1) in rw e (omega arith)
 
 -- texts that lie one behind the other: where the last ends is how many bytes they have
-module _ (rows : List ℕ) (lo hi : ℕ) (laid : (j : ℕ) → lo ≤ j → j + 1 < hi → rowAt rows (j + 1) .start ≡ rowAt rows j .start + rowAt rows j .length) where
+module _ (rows : Table) (lo hi : ℕ) (laid : (j : ℕ) → lo ≤ j → j + 1 < hi → rowAt rows (j + 1) .start ≡ rowAt rows j .start + rowAt rows j .length) where
   pub size-ends : (n i : ℕ) → lo ≤ i → i + n < hi → rowAt rows i .start + textSize rows i (suc n) ≡ rowAt rows (i + n) .start + rowAt rows (i + n) .length
   unfolding textSize
   size-ends zero i h l = let e : i + 0 ≡ i = omega arith in rw e (omega arith)
@@ -96,7 +93,7 @@ module _ (rows : List ℕ) (lo hi : ℕ) (laid : (j : ℕ) → lo ≤ j → j + 
       omega arith
 
 -- what repeating a run asks for
-module _ (text rows : List ℕ) (first p q w at : ℕ) (k : Rows at (earlier text rows first (q - 1))) (s : RowsSpelt (earlier text rows first (q - 1))) (low : 1 ≤ p) (some : p < q)
+module _ (text : List ℕ) (rows : Table) (first p q w at : ℕ) (k : Rows at (earlier text rows first (q - 1))) (s : RowsSpelt (earlier text rows first (q - 1))) (low : 1 ≤ p) (some : p < q)
     (is : w ≡ textLength rows (first + (p - 1)) (first + (q - 1))) where
   sized : w ≡ textSize rows (first + (p - 1)) (suc (q - p - 1))
   sized = is ∙ length-size rows first (first + (q - 1)) (s .laid) (first + (p - 1)) (first + (q - 1)) (q - p - 1) (omega arith) (omega arith) (omega arith)
@@ -115,9 +112,9 @@ module _ (text rows : List ℕ) (first p q w at : ℕ) (k : Rows at (earlier tex
   repeat-fits f j h l =
       ends-fit rows first (first + (q - 1)) (s .laid) (first + (p - 1)) j (q - p - 1) at (omega arith) h (omega arith) (omega arith) (omega (arith, sized))
 
-pub repeat-put : (text rows cur : List ℕ) (i j n w at to p q : ℕ) {r : Row} {text' rows' cur' : List ℕ} → j ≡ n → r ≡ rowAt rows i
+pub repeat-put : (text : List ℕ) (rows : Table) (cur : List ℕ) (i j n w at to p q : ℕ) {r : Row} {text' : List ℕ} {rows' : Table} {cur' : List ℕ} → j ≡ n → r ≡ rowAt rows i
     → text' ≡ written text at (part text (r .start) (r .start + w))
-    → rows' ≡ written rows (rowSize * to) (movedRows rows i j at) → cur' ≡ typesPast cur p (q - p)
-    → memory text' rows' cur' ≡ memory (written text at (part text (textStart rows i) (textStart rows i + w))) (written rows (rowSize * to) (movedRows rows i n at)) (typesPast cur p (q - p))
+    → rows' ≡ putRows rows to (movedRows rows i j at) → cur' ≡ typesPast cur p (q - p)
+    → memory text' rows' cur' ≡ memory (written text at (part text (textStart rows i) (textStart rows i + w))) (putRows rows to (movedRows rows i n at)) (typesPast cur p (q - p))
 unfolding textStart
 repeat-put text rows cur i j n w at to p q e is t r c = rw (t, r, c, e, is)

@@ -1,5 +1,5 @@
 -- A spelt row stays spelt: of the kept text only what stands below matters to it.
-use Prim.Native.Nat.{ℕ, _+_, _*_, _≤_, _<_}
+use Prim.Native.Nat.{ℕ, _+_, _≤_, _<_}
 use mathlib.Core.Path.{_≡_, refl, sym, ap, _∙_, subst}
 use mathlib.Core.List.{List}
 use native.Mathlib.Omega.{arith}
@@ -12,11 +12,10 @@ use Rattle.tokens.specs.declared.Token.{Token}
 use Rattle.tokens.specs.Tokens.{bytesOf, kindOf, numberOf, widthOf, lengthOf}
 use Rattle.base.proofs.Below.{same-part}
 use Rattle.base.proofs.Choice.{pick-holds}
-use Rattle.kept.specs.declared.Row.{Row}
+use Rattle.tables.specs.declared.Row.{Row}
 use Rattle.kept.specs.Inside.{RowInside}
-use Rattle.kept.specs.Tables.{rowSize, rowAt}
-use Rattle.kept.proofs.Frame as frame
-use Rattle.kept.proofs.Frame.{row-alike}
+use Rattle.tables.specs.Tables.{Table, rowAt}
+use Rattle.tables.proofs.Rows.{SameRows}
 use Rattle.sources.specs.Source.{earlier}
 use Rattle.repeats.specs.Repeats.{tokenOf}
 use Rattle.repeats.proofs.Frame.{token-same}
@@ -47,14 +46,14 @@ module _ (text other : List ℕ) (used : ℕ) (r : Row) (same : take used text �
       }
 
 -- and so are all the rows of a name
-pub rows-spelt-same : (text other rows table : List ℕ) (first count used : ℕ) → ((j : ℕ) → first ≤ j → j < first + count → RowInside used (rowAt rows j))
-    → take used text ≡ take used other → frame.Alike rows table (rowSize * (first + count)) → RowsSpelt (earlier text rows first count) → RowsSpelt (earlier other table first count)
+pub rows-spelt-same : (text other : List ℕ) (rows table : Table) (first count used : ℕ) → ((j : ℕ) → first ≤ j → j < first + count → RowInside used (rowAt rows j))
+    → take used text ≡ take used other → SameRows rows table (first + count) → RowsSpelt (earlier text rows first count) → RowsSpelt (earlier other table first count)
 rows-spelt-same text other rows table first count used k same alike s =
     record {
       each =
           λ j a b.
-          subst (Spelt other) (row-alike rows table (first + count) alike j b) (spelt-same text other used (rowAt rows j) same (k j a b) (s .each j a b));
+          subst (Spelt other) (alike j b) (spelt-same text other used (rowAt rows j) same (k j a b) (s .each j a b));
       laid =
           λ j a b.
-          rw (← row-alike rows table (first + count) alike (j + 1) b, ← row-alike rows table (first + count) alike j (omega arith)) (s .laid j a b);
+          rw (← alike (j + 1) b, ← alike j (omega arith)) (s .laid j a b);
     }

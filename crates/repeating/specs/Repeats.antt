@@ -6,8 +6,8 @@ use mathlib.Core.List.{List}
 use Rattle.base.specs.Memory.{part}
 use Rattle.classes.specs.Classes.{allAllowed}
 use Rattle.tokens.specs.Tokens.{bytesOf, kindOf, numberOf, widthOf, lengthOf}
-use Rattle.kept.specs.declared.Row.{Row}
-use Rattle.kept.specs.Tables.{rowAt}
+use Rattle.tables.specs.declared.Row.{Row}
+use Rattle.tables.specs.Tables.{rowAt}
 use Rattle.sources.specs.Source.{Earlier}
 use Rattle.repeats.specs.Repeats.{tokenOf}
 

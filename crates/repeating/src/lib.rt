@@ -1,10 +1,9 @@
 // A run of MATCHes repeated in one go: the texts of its rows, its rows, and the cursors past its types.
 ghost use mathlib.Core.Path.{_≡_};
-ghost use Prim.Native.Nat.{ℕ, _≤_, _<_, _+_, _-_, _*_, _^_};
+ghost use Prim.Native.Nat.{ℕ, _≤_, _<_, _+_, _-_, _^_};
 ghost use lib.ListN.{length};
-ghost use Rattle.base.specs.Memory.{written};
 ghost use Rattle.block.specs.Block.{spanOf, cursorOf};
-ghost use Rattle.kept.specs.Tables.{rowSize, rowAt};
+ghost use Rattle.tables.specs.Tables.{rowAt, inRows, rowRoom, putRows, rowsLent, rowsLeft};
 ghost use Rattle.sources.specs.Source.{earlier};
 ghost use Rattle.repeats.specs.Sound.{Rows};
 ghost use Rattle.names.specs.Keeps.{memoryLent, memoryLeft};
@@ -14,16 +13,15 @@ ghost use Rattle.repeating.specs.Repeating.{movedRows, typesPast, repeat
 ghost use Rattle.base.specs.Lent.{lent, left};
 ghost use Rattle.block.specs.Streams.{typeStream};
 use block::stream;
-use kept::Row;
-use kept::tables;
 use spans::Position;
+use tables::Row;
 
 // Rows `from` up to `to` once more from `row` on, with their texts at `at`.
 fn copy_rows(rows: &mut [u32], from: usize, to: usize, row: usize, at: u32)
-    requires { ⌜ (from ≤ to) × ((to ≤ row) × (rowSize * (row + (to - from)) ≤ length (now rows))) ⌝ }
-    requires { ⌜ ((j : ℕ) → from ≤ j → j + 1 < to → rowAt (now rows) (j + 1) .start ≡ rowAt (now rows) j .start + rowAt (now rows) j .length) ⌝ }
-    requires { ⌜ ((j : ℕ) → from ≤ j → j < to → at + (rowAt (now rows) j .start + rowAt (now rows) j .length) < 2 ^ 32 + rowAt (now rows) from .start) ⌝ }
-    ensures { λ _. ⌜ left rows ≡ written (lent rows) (rowSize * row) (movedRows (lent rows) from (to - from) at) ⌝ }
+    requires { ⌜ (from ≤ to) × ((to ≤ row) × (row + (to - from) ≤ rowRoom (inRows (now rows)))) ⌝ }
+    requires { ⌜ ((j : ℕ) → from ≤ j → j + 1 < to → rowAt (inRows (now rows)) (j + 1) .start ≡ rowAt (inRows (now rows)) j .start + rowAt (inRows (now rows)) j .length) ⌝ }
+    requires { ⌜ ((j : ℕ) → from ≤ j → j < to → at + (rowAt (inRows (now rows)) j .start + rowAt (inRows (now rows)) j .length) < 2 ^ 32 + rowAt (inRows (now rows)) from .start) ⌝ }
+    ensures { λ _. ⌜ rowsLeft rows ≡ putRows (rowsLent rows) row (movedRows (rowsLent rows) from (to - from) at) ⌝ }
 {
     let mut i = from;
     let mut k = row;
@@ -72,11 +70,11 @@ pub fn repeat(
 )
     requires { ⌜ (length (now cursors) ≡ 1290) × ((1 ≤ p .0) × ((p .0 < q .0) × (q .0 ≤ 128))) ⌝ }
     requires { ⌜ ((i : ℕ) → p .0 ≤ i → i < q .0 → cursorOf (now cursors) (spanOf i typeStream) + 1 < 2 ^ 32) ⌝ }
-    requires { ⌜ Rows at (earlier (now text) (now rows) first (q .0 - 1)) ⌝ }
-    requires { ⌜ RowsSpelt (earlier (now text) (now rows) first (q .0 - 1)) ⌝ }
-    requires { ⌜ w ≡ textLength (now rows) (first + (p .0 - 1)) (first + (q .0 - 1)) ⌝ }
+    requires { ⌜ Rows at (earlier (now text) (inRows (now rows)) first (q .0 - 1)) ⌝ }
+    requires { ⌜ RowsSpelt (earlier (now text) (inRows (now rows)) first (q .0 - 1)) ⌝ }
+    requires { ⌜ w ≡ textLength (inRows (now rows)) (first + (p .0 - 1)) (first + (q .0 - 1)) ⌝ }
     requires { ⌜ (at + w ≤ length (now text)) × (at + w < 2 ^ 32) ⌝ }
-    requires { ⌜ (first + (q .0 - 1) ≤ row) × ((row < 2 ^ 31) × (rowSize * (row + (q .0 - 1)) ≤ length (now rows))) ⌝ }
+    requires { ⌜ (first + (q .0 - 1) ≤ row) × ((row < 2 ^ 31) × (row + (q .0 - 1) ≤ rowRoom (inRows (now rows)))) ⌝ }
     ensures { λ _. ⌜ memoryLeft text rows cursors ≡ repeatPut first (p .0) (q .0) w at row (memoryLent text rows cursors) ⌝ }
 {
     let from = (first + (p.0 - 1)) as usize;

@@ -11,7 +11,7 @@ use Rattle.base.specs.Choice.{pick}
 use Rattle.base.proofs.Choice.{pick-same}
 use Rattle.tokens.specs.declared.Token.the-variants.{String, Char}
 use Rattle.base.proofs.Below.{same-at}
-use Rattle.kept.specs.declared.Row.{Row}
+use Rattle.tables.specs.declared.Row.{Row}
 use Rattle.kept.specs.Inside.{RowInside}
 use Rattle.repeats.specs.Repeats.{tokenOf}
 

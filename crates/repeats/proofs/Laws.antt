@@ -1,13 +1,13 @@
 -- When the earlier name's rows are sound.
-use Prim.Native.Nat.{ℕ, _+_, _*_, _^_, _≤_, _<_}
+use Prim.Native.Nat.{ℕ, _+_, _^_, _≤_, _<_}
 use mathlib.Core.List.{List}
 use native.Mathlib.Omega.{arith}
 use lib.ListN.{length}
 use Rattle.block.specs.declared.State.{State}
-use Rattle.kept.specs.declared.Entry.{Entry}
+use Rattle.tables.specs.declared.Entry.{Entry}
 use Rattle.kept.specs.Inside.{EntryInside}
 use Rattle.kept.proofs.Laws.{row-more}
-use Rattle.kept.specs.Tables.{rowSize}
+use Rattle.tables.specs.Tables.{Table, rowRoom}
 use Rattle.sources.specs.Source.{Earlier, earlier}
 use Rattle.repeats.specs.Sound.{Rows, reach}
 
@@ -20,11 +20,11 @@ module _ (used : ℕ) (e : Earlier) (r : Rows used e) where
   rows-reach h = let u : used ≤ length (e .text) = r .room in rows-more (reach (e .text)) (omega arith) (omega arith)
 
 -- no earlier name
-pub rows-none : (used : ℕ) (text rows : List ℕ) → used ≤ length text → Rows used (earlier text rows 0 0)
+pub rows-none : (used : ℕ) (text : List ℕ) (rows : Table) → used ≤ length text → Rows used (earlier text rows 0 0)
 rows-none used text rows h = record { table = omega arith; most = omega arith; room = h; each = λ j a b. absurd (omega arith) }
 
 -- an earlier name that was judged
-pub rows-judged : (k : State) (text rows : List ℕ) (x : Entry) → rowSize * k .rows ≤ length rows → k .text ≤ length text → EntryInside k rows x
+pub rows-judged : (k : State) (text : List ℕ) (rows : Table) (x : Entry) → k .rows ≤ rowRoom rows → k .text ≤ length text → EntryInside k rows x
     → Rows (k .text) (earlier text rows (x .first) (x .rows))
 rows-judged k text rows x h l f =
     let a : x .first + x .rows ≤ k .rows = f .rows .ends in

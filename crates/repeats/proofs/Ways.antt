@@ -11,8 +11,8 @@ use Rattle.spans.specs.declared.Cursor.{Cursor}
 use Rattle.spans.specs.declared.NextByte.{NextByte}
 use Rattle.block.specs.Streams.{ddeltaStream, ddelta0Stream}
 use Rattle.tokens.specs.declared.Token.the-variants.{String, Char, Digits, Digits0}
-use Rattle.kept.specs.declared.Row.{Row}
-use Rattle.kept.specs.Tables.{rowAt}
+use Rattle.tables.specs.declared.Row.{Row}
+use Rattle.tables.specs.Tables.{rowAt}
 use Rattle.values.specs.declared.Step.{Step}
 use Rattle.values.specs.declared.Step.the-variants.{Refused}
 use Rattle.sources.specs.Source.{Source, Earlier, byteIn}

@@ -1,20 +1,20 @@
 // The tokens that lean on the earlier name's row at their position.
 ghost use mathlib.Core.Path.{_≡_};
 ghost use mathlib.Core.List.{List};
-ghost use Prim.Native.Nat.{ℕ, _≤_, _<_, _+_, _-_, _*_, _^_};
+ghost use Prim.Native.Nat.{ℕ, _≤_, _<_, _+_, _-_, _^_};
 ghost use lib.ListN.{length};
 ghost use Rattle.block.specs.Open.{Open};
-ghost use Rattle.kept.specs.Tables.{rowSize, rowAt};
+ghost use Rattle.tables.specs.Tables.{rowAt, inRows, rowRoom, rowsLent};
 ghost use Rattle.kept.specs.Inside.{RowInside};
 ghost use Rattle.sources.specs.Source.{earlier, source};
-ghost use Rattle.tokens.specs.Types.{Rules};
+ghost use Rattle.types.specs.Types.{Rules};
 ghost use Rattle.repeats.specs.Repeats.{tokenOf, matchOf, deltaAt, delta0At, matchAt};
 ghost use Rattle.repeats.specs.Sound.{Rows, reach};
 ghost use Rattle.base.specs.Lent.{lent};
 use block::stream;
-use kept::Row;
 use spans::Cursor;
 use spans::Position;
+use tables::Row;
 use tokens::Padded;
 use tokens::Text;
 use tokens::Token;
@@ -47,10 +47,10 @@ fn token_of(text: &[u8], r: Row) -> Token
 
 // The earlier name's row at a position: rows are counted from 0, positions from 1.
 fn row_here(rows: &[u32], first: u32, p: Position) -> Row
-    requires { ⌜ (1 ≤ p .0) × ((first + p .0 < 2 ^ 32) × (rowSize * (first + p .0) ≤ length (now rows))) ⌝ }
-    ensures { λ r. ⌜ r ≡ rowAt (lent rows) (first + (p .0 - 1)) ⌝ }
+    requires { ⌜ (1 ≤ p .0) × ((first + p .0 < 2 ^ 32) × (first + p .0 ≤ rowRoom (inRows (now rows)))) ⌝ }
+    ensures { λ r. ⌜ r ≡ rowAt (rowsLent rows) (first + (p .0 - 1)) ⌝ }
 {
-    kept::tables::row_at(rows, first + (p.0 - 1))
+    tables::row_at(rows, first + (p.0 - 1))
 }
 
 pub fn delta_at(
@@ -63,9 +63,9 @@ pub fn delta_at(
     p: Position,
 ) -> Step
     requires { ⌜ Open (now bytes) (now dir) (now cursors) ⌝ }
-    requires { ⌜ rowSize * (first + count) ≤ length (now rows) ⌝ }
+    requires { ⌜ first + count ≤ rowRoom (inRows (now rows)) ⌝ }
     requires { ⌜ (first + count < 2 ^ 32) × ((1 ≤ p .0) × (p .0 ≤ 128)) ⌝ }
-    ensures { λ r. ⌜ ((rules : Rules) (text : List ℕ) → r ≡ deltaAt (source rules (lent bytes) (lent dir) (lent cursors)) (earlier text (lent rows) first count) (p .0)) ⌝ }
+    ensures { λ r. ⌜ ((rules : Rules) (text : List ℕ) → r ≡ deltaAt (source rules (lent bytes) (lent dir) (lent cursors)) (earlier text (rowsLent rows) first count) (p .0)) ⌝ }
 {
     let at = p.0;
     if count < at {
@@ -90,9 +90,9 @@ pub fn delta0_at(
     p: Position,
 ) -> Step
     requires { ⌜ Open (now bytes) (now dir) (now cursors) ⌝ }
-    requires { ⌜ rowSize * (first + count) ≤ length (now rows) ⌝ }
+    requires { ⌜ first + count ≤ rowRoom (inRows (now rows)) ⌝ }
     requires { ⌜ (first + count < 2 ^ 32) × ((1 ≤ p .0) × (p .0 ≤ 128)) ⌝ }
-    ensures { λ r. ⌜ ((rules : Rules) (text : List ℕ) → r ≡ delta0At (source rules (lent bytes) (lent dir) (lent cursors)) (earlier text (lent rows) first count) (p .0)) ⌝ }
+    ensures { λ r. ⌜ ((rules : Rules) (text : List ℕ) → r ≡ delta0At (source rules (lent bytes) (lent dir) (lent cursors)) (earlier text (rowsLent rows) first count) (p .0)) ⌝ }
 {
     let at = p.0;
     if count < at {
@@ -116,9 +116,9 @@ fn match_of(text: &[u8], r: Row, c: Cursor) -> Step
 }
 
 pub fn match_at(text: &[u8], rows: &[u32], first: u32, count: u32, p: Position, c: Cursor) -> Step
-    requires { ⌜ Rows (reach (now text)) (earlier (now text) (now rows) first count) ⌝ }
+    requires { ⌜ Rows (reach (now text)) (earlier (now text) (inRows (now rows)) first count) ⌝ }
     requires { ⌜ (first + count < 2 ^ 32) × ((1 ≤ p .0) × (p .0 ≤ 128)) ⌝ }
-    ensures { λ r. ⌜ r ≡ matchAt (earlier (lent text) (lent rows) first count) (p .0) c ⌝ }
+    ensures { λ r. ⌜ r ≡ matchAt (earlier (lent text) (rowsLent rows) first count) (p .0) c ⌝ }
 {
     let at = p.0;
     if count < at {

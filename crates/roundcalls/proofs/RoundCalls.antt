@@ -7,19 +7,24 @@ use native.Mathlib.Numerals.{add-one}
 use lib.ListN.{length, getD, replicate}
 use Rattle.block.specs.declared.Opened.the-variants as opened
 use Rattle.block.specs.Block.{Opening, opening, openOf, state, starts}
-use Rattle.kept.specs.Tables.{entrySize, rowSize, keeping}
+use Rattle.tables.specs.Tables.{entrySize, keeping, Table, rowRoom}
 use Rattle.sources.specs.Source.{source}
 use Rattle.entries.specs.declared.Answer.{Answer}
 use Rattle.entries.specs.declared.Answer.the-variants as answer
-use Rattle.entries.specs.Outcomes.{Outcome, outcome}
+use Rattle.outcomes.specs.Outcomes.{Outcome, outcome}
 use Rattle.reads.specs.Reads.{readOf}
 use Rattle.laying.specs.Puts.{totalOf}
 use Rattle.inputs.specs.Inputs.{namesOf}
 use Rattle.nameputs.specs.NamePuts.{putsOf}
 use Rattle.writing.specs.declared.WriteAnswer.the-variants as written
 use Rattle.writing.specs.Writes.{Writing, writeOf}
-use Rattle.answers.specs.Answers.{packed, refusalNumber, openedNumber, readNumber, writtenNumber, stateIn, stateOut}
-use Rattle.calls.specs.Calls.{openedState, opensOf, openCall, Reads, readsOf, readCall, blockCall, writtenTotals, writesOf, writeCall}
+use Rattle.codes.specs.Codes.{packed, refusalNumber, stateIn, stateOut}
+use Rattle.opencalls.specs.Calls.{openedNumber}
+use Rattle.writecalls.specs.Calls.{writtenNumber}
+use Rattle.answers.specs.Answers.{readNumber}
+use Rattle.opencalls.specs.Calls.{openedState, opensOf, openCall}
+use Rattle.readcalls.specs.Calls.{Reads, readsOf, readCall, blockCall}
+use Rattle.writecalls.specs.Calls.{writtenTotals, writesOf, writeCall}
 use Rattle.demands.specs.Runs.{Lent, left, reading}
 use Rattle.demands.specs.Refusals as cases
 use Rattle.demands.specs.Refusals.{WriteCase}
@@ -29,7 +34,7 @@ use Rattle.roundtrip.specs.Back.{Roomy, InputBack, readTimes, OneByOne}
 use Rattle.roundtrip.specs.Demand.{Begins}
 use Rattle.roundtrip.proofs.RoundTrip.{reads-back-written, reads-back-amply, reads-one-by-one, opens-written}
 use Rattle.roundcalls.specs.Demand.{Wrote, WritesInOrder, TellsTotals, BlockBack, BlockReadsBack, BlockReadsBackAmply, CallsBack, CallsReadBack}
-use Rattle.tokens.specs.Types.{Rules}
+use Rattle.types.specs.Types.{Rules}
 
 -- writing that answers code 0 has written
 code-0 : (rules : Rules) (input dir bytes totals : List ℕ) (v : ℕ) (w : Writing) → WriteCase rules input dir bytes w → writesOf totals w .number ≡ packed 0 v
@@ -96,13 +101,13 @@ module _ (rules : Rules) (input dir bytes totals : List ℕ) (n total : ℕ) (w 
       has-written rules input dir bytes totals (w .value) (w .number)
       ∙ ap (λ (l : List ℕ). written.Written (getD l 0 0) (getD l 1 0)) same-totals
 
-  module _ (b : List ℕ) (same : Begins total (writeCall rules input dir bytes totals .bytes) b) (cur text names rows st : List ℕ) (t : length cur ≡ 1290) where
+  module _ (b : List ℕ) (same : Begins total (writeCall rules input dir bytes totals .bytes) b) (cur text names : List ℕ) (rows : Table) (st : List ℕ) (t : length cur ≡ 1290) where
     call-back : Roomy (namesOf input) (keeping (stateIn st) text names rows)
         → BlockBack input n (blockCall rules b (writeCall rules input dir bytes totals .directory) n cur text names rows st)
     unfolding writeCall writesOf blockCall
     call-back r = block-back input n _ all (reads-back-written rules input dir bytes n total answers b same cur _ t r)
 
-    call-back-amply : 255 * n ≤ length text → entrySize * n ≤ length names → 127 * rowSize * n ≤ length rows
+    call-back-amply : 255 * n ≤ length text → entrySize * n ≤ length names → 127 * n ≤ rowRoom rows
         → BlockBack input n (blockCall rules b (writeCall rules input dir bytes totals .directory) n cur text names rows st)
     unfolding writeCall writesOf blockCall
     call-back-amply x y z = block-back input n _ all (reads-back-amply rules input dir bytes n total answers b same cur _ t x y z)

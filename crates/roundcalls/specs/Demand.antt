@@ -3,20 +3,22 @@ use Prim.Native.Nat.{ℕ, _+_, _*_, _≤_, _<_}
 use mathlib.Core.Path.{_≡_}
 use mathlib.Core.List.{List, [], _∷_}
 use lib.ListN.{length, getD, replicate}
-use Rattle.kept.specs.Tables.{entrySize, rowSize, keeping}
+use Rattle.tables.specs.Tables.{entrySize, keeping, Table, rowRoom}
 use Rattle.entries.specs.declared.Answer.the-variants as answer
-use Rattle.entries.specs.Outcomes.{outcome}
+use Rattle.outcomes.specs.Outcomes.{outcome}
 use Rattle.laying.specs.Puts.{totalOf}
 use Rattle.inputs.specs.Inputs.{namesOf}
 use Rattle.nameputs.specs.NamePuts.{putsOf}
-use Rattle.answers.specs.Answers.{packed, stateIn}
-use Rattle.calls.specs.Calls.{openCall, Reads, blockCall, Writes, writeCall}
+use Rattle.codes.specs.Codes.{packed, stateIn}
+use Rattle.opencalls.specs.Calls.{openCall}
+use Rattle.readcalls.specs.Calls.{Reads, blockCall}
+use Rattle.writecalls.specs.Calls.{Writes, writeCall}
 use Rattle.demands.specs.Runs.{reading}
 use Rattle.demands.specs.Refusals.{Countable, AllGood}
 use Rattle.demands.specs.Boundary.{begun, lentFrom, callsOn}
 use Rattle.roundtrip.specs.Back.{Roomy, NameIs, InputBack}
 use Rattle.roundtrip.specs.Demand.{Begins}
-use Rattle.tokens.specs.Types.{Rules}
+use Rattle.types.specs.Types.{Rules}
 
 -- aq_write answered code 0, and its totals are so many names and so many bytes
 pub record Wrote (w : Writes) (n total : ℕ) : Type 0 where
@@ -48,7 +50,7 @@ abbrev pub BlockReadsBack : Type 0
 BlockReadsBack =
     (rules : Rules) (input dir bytes totals : List ℕ) (n total : ℕ) → Wrote (writeCall rules input dir bytes totals) n total
     → (b : List ℕ) → Begins total (writeCall rules input dir bytes totals .bytes) b
-    → (cur text names rows st : List ℕ) → length cur ≡ 1290 → Roomy (namesOf input) (keeping (stateIn st) text names rows)
+    → (cur text names : List ℕ) (rows : Table) (st : List ℕ) → length cur ≡ 1290 → Roomy (namesOf input) (keeping (stateIn st) text names rows)
     → BlockBack input n (blockCall rules b (writeCall rules input dir bytes totals .directory) n cur text names rows st)
 
 -- 255 bytes of text, an entry and 127 rows for each name are always room enough
@@ -56,7 +58,7 @@ abbrev pub BlockReadsBackAmply : Type 0
 BlockReadsBackAmply =
     (rules : Rules) (input dir bytes totals : List ℕ) (n total : ℕ) → Wrote (writeCall rules input dir bytes totals) n total
     → (b : List ℕ) → Begins total (writeCall rules input dir bytes totals .bytes) b
-    → (cur text names rows st : List ℕ) → length cur ≡ 1290 → 255 * n ≤ length text → entrySize * n ≤ length names → 127 * rowSize * n ≤ length rows
+    → (cur text names : List ℕ) (rows : Table) (st : List ℕ) → length cur ≡ 1290 → 255 * n ≤ length text → entrySize * n ≤ length names → 127 * n ≤ rowRoom rows
     → BlockBack input n (blockCall rules b (writeCall rules input dir bytes totals .directory) n cur text names rows st)
 
 -- the n names of an input, read one a call over what opening left: opening answers code 0, read i, from 0 on, answers code 0 with i and keeps name i,
@@ -72,5 +74,5 @@ abbrev pub CallsReadBack : Type 0
 CallsReadBack =
     (rules : Rules) (input dir bytes totals : List ℕ) (n total : ℕ) → Wrote (writeCall rules input dir bytes totals) n total
     → (b : List ℕ) → Begins total (writeCall rules input dir bytes totals .bytes) b
-    → (cur text names rows st : List ℕ) → length cur ≡ 1290 → Roomy (namesOf input) (keeping (stateIn st) text names rows)
+    → (cur text names : List ℕ) (rows : Table) (st : List ℕ) → length cur ≡ 1290 → Roomy (namesOf input) (keeping (stateIn st) text names rows)
     → CallsBack rules input n b (writeCall rules input dir bytes totals .directory) (begun (openCall b (writeCall rules input dir bytes totals .directory) n cur st) text names rows)

@@ -8,18 +8,18 @@ use lib.ListN.{length, getD, length-append}
 use Rattle.base.proofs.Holding.{Holds, holds-none, holds-join, holds-same}
 use Rattle.block.specs.declared.State.{State}
 use Rattle.block.specs.Block.{state, endOf}
-use Rattle.kept.specs.Tables.{Kept}
+use Rattle.tables.specs.Tables.{Kept, rowRoom}
 use Rattle.kept.proofs.Later.{Later, later-same, later-then}
 use Rattle.sources.specs.Source.{source}
 use Rattle.entries.specs.declared.Answer.{Answer}
 use Rattle.entries.specs.declared.Answer.the-variants as answer
-use Rattle.entries.specs.Outcomes.{Outcome, outcome}
+use Rattle.outcomes.specs.Outcomes.{Outcome, outcome}
 use Rattle.reads.specs.Reads.{readOf, goOn, readsFrom}
 use Rattle.roundtrip.specs.Room.{listed, textWanted, rowsAdded, rowsFor}
 use Rattle.roundtrip.specs.Back.{NameIs, RowsAre, readTimes}
 use Rattle.roundtrip.proofs.Keeping.{stays-name, stays-rows}
 use Rattle.roundtrip.proofs.Reading.{Reached, ReadBack, done-back, read-back}
-use Rattle.tokens.specs.Types.{Rules}
+use Rattle.types.specs.Types.{Rules}
 
 -- kept name i and those after it are these
 unfoldable pub NamesAre : Kept → ℕ → List (List ℕ) → Type 0
@@ -38,17 +38,19 @@ names-at m (s ∷ ss) i a (suc j) h =
 pub record Whole (m : Kept) (before : List ℕ) (coming : List (List ℕ)) (o : Outcome) : Type 0 where
   pub answer : o .answer ≡ answer.Done
   pub stays : Later m (o .kept)
+  pub room : o .kept .state .rows ≤ rowRoom (o .kept .rows)
   pub each : NamesAre (o .kept) (m .state .names) coming
   pub text : Holds (o .kept .text) (m .state .text) (listed coming)
   pub counts : o .kept .state
       ≡ state (m .state .count) (m .state .names + length coming) (m .state .text + textWanted coming) (m .state .rows + rowsFor (m .state .names) before coming)
 
-whole-none : (cur : List ℕ) (m : Kept) (before : List ℕ) → Whole m before [] (outcome answer.Done cur m)
+whole-none : (cur : List ℕ) (m : Kept) (before : List ℕ) → m .state .rows ≤ rowRoom (m .rows) → Whole m before [] (outcome answer.Done cur m)
 unfolding NamesAre listed textWanted rowsFor
-whole-none cur m before =
+whole-none cur m before room =
     record {
       answer = refl;
       stays = later-same m;
+      room = room;
       each = tt;
       text = holds-none (m .text) (m .state .text);
       counts = rw (add-zero (m .state .names), add-zero (m .state .text), add-zero (m .state .rows)) refl;
@@ -70,8 +72,9 @@ whole-more rules bytes dir cur m before s ss b o w =
     record {
       answer = w .answer;
       stays = later-then m (b .next) (o .kept) (b .stays) (w .stays);
+      room = w .room;
       each = (
-        (stays-name (b .next) (o .kept) k s (w .stays) (omega arith) (b .entry), stays-rows (b .next) (o .kept) k s (w .stays) (omega arith) (b .entry)),
+        (stays-name (b .next) (o .kept) k s (w .stays) (omega arith) (b .entry), stays-rows (b .next) (o .kept) k s (w .stays) (w .room) (omega arith) (b .entry)),
         subst (λ (i : ℕ). NamesAre (o .kept) i ss) names (w .each),
       );
       text =
@@ -98,7 +101,7 @@ module _ (rules : Rules) (bytes dir : List ℕ) (directory : length dir ≡ 2580
   pub reads-back : (coming : List (List ℕ)) (f : ℕ) (a : Answer) (cur : List ℕ) (m : Kept) (before : List ℕ) → length coming < f → Reached rules bytes dir cur m before coming
       → Whole m before coming (readsFrom rules bytes dir f (outcome a cur m))
   reads-back [] zero a cur m before h r = absurd (omega arith)
-  reads-back [] (suc f) a cur m before h r = rw (reads-done f a cur m before r) (whole-none cur m before)
+  reads-back [] (suc f) a cur m before h r = rw (reads-done f a cur m before r) (whole-none cur m before (r .counted .rowsUsed))
   reads-back (s ∷ ss) zero a cur m before h r = absurd (omega arith)
   reads-back (s ∷ ss) (suc f) a cur m before h r =
       let b : ReadBack rules bytes dir cur m before s ss = read-back rules bytes dir cur m before directory within s ss r in

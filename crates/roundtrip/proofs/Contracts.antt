@@ -6,10 +6,10 @@ use mathlib.Core.List.{List, []}
 use native.Mathlib.Numerals.{add-one}
 use lib.ListN.{length, getD, take}
 use Rattle.block.specs.Block.{state, starts}
-use Rattle.kept.specs.Tables.{Kept, keeping}
+use Rattle.tables.specs.Tables.{Kept, keeping, Table}
 use Rattle.sources.specs.Source.{source}
 use Rattle.entries.specs.declared.Answer.the-variants as answer
-use Rattle.entries.specs.Outcomes.{Outcome, outcome}
+use Rattle.outcomes.specs.Outcomes.{Outcome, outcome}
 use Rattle.reads.specs.Reads.{readOf}
 use Rattle.reading.specs.Blocks.{blockOf}
 use Rattle.writing.specs.declared.WriteAnswer.the-variants.{Written}
@@ -18,7 +18,7 @@ use Rattle.writing.specs.Writes.{Writing, writing, writeOf}
 use Rattle.roundtrip.specs.Back.{Roomy, NameIs, InputBack, readTimes, OneByOne}
 use Rattle.roundtrip.specs.Demand.{Begins}
 use Rattle.roundtrip.proofs.RoundTrip.{reads-back-written, reads-one-by-one}
-use Rattle.tokens.specs.Types.{Rules}
+use Rattle.types.specs.Types.{Rules}
 
 pub code-reads-back : (rules : Rules) (input dir bytes d w : List ℕ) (n total : ℕ) → writing (Written n total) d w ≡ writeOf rules input dir bytes
     → (b : List ℕ) → Begins total w b
@@ -40,7 +40,7 @@ seen-times rules bytes dir (suc n) o f = seen-times rules bytes dir n (λ i. o (
 -- and reads of one name a call give them back: read i, from 0 on, answers i and keeps name i, and one more read is done
 pub code-reads-one-by-one : (rules : Rules) (input dir bytes d w : List ℕ) (n total : ℕ) → writing (Written n total) d w ≡ writeOf rules input dir bytes
     → (b : List ℕ) → Begins total w b
-    → (text table rows : List ℕ) → Roomy (namesOf input) (keeping (state n 0 0 0) text table rows)
+    → (text table : List ℕ) (rows : Table) → Roomy (namesOf input) (keeping (state n 0 0 0) text table rows)
     → (o : ℕ → Outcome) → o 0 ≡ outcome answer.Done (starts d) (keeping (state n 0 0 0) text table rows)
     → ((i : ℕ) → o (i + 1) ≡ readOf (source rules b d (o i .cur)) (o i .kept))
     → ((i : ℕ) → i < length (namesOf input) → (o (i + 1) .answer ≡ answer.Kept i) × NameIs (o (i + 1) .kept) i (getD (namesOf input) i []))

@@ -7,7 +7,7 @@ use native.Mathlib.Omega.{arith}
 use borrow.Author.Tests.{leb-true, eqb-true, eq-eqb, ne-eqb}
 use lib.Dec.{leb, eqb}
 use lib.ListN.{length, getD, length-append}
-use Rattle.base.specs.Same.{same}
+use Rattle.comparing.specs.Same.{same}
 use Rattle.base.proofs.Choice.{pick-true, pick-false, both-true, by-test, pick-holds}
 use Rattle.classes.specs.Classes.{allAllowed}
 use Rattle.references.specs.References.{anew}

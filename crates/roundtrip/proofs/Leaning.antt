@@ -8,12 +8,12 @@ use borrow.Author.Tests.{ltb-true, ltb-false, eqb-true, eq-eqb}
 use lib.Dec.{ltb, eqb}
 use lib.ListN.{length}
 use Rattle.base.specs.Memory.{part}
-use Rattle.base.specs.Same.{same}
+use Rattle.comparing.specs.Same.{same}
 use Rattle.base.proofs.Choice.{both-of, pick-holds}
-use Rattle.base.proofs.Equal.{same-equal}
+use Rattle.comparing.proofs.Equal.{same-equal}
 use Rattle.base.proofs.Holding.{Holds}
 use Rattle.tokens.specs.declared.Padded.{Padded}
-use Rattle.kept.specs.declared.Row.{Row}
+use Rattle.tables.specs.declared.Row.{Row}
 use Rattle.sources.specs.Source.{Earlier}
 use Rattle.repeats.specs.Repeats.{hasRow, rowHere, hasKind}
 use Rattle.pieces.specs.declared.Piece.{Piece}

@@ -1,13 +1,13 @@
 -- A token of a name prints the bytes that it was cut from, and its numbers are small.
-use Prim.Native.Nat.{ℕ, zero, suc, _+_, _-_, _*_, _^_, _≤_, _<_}
+use Prim.Native.Nat.{ℕ, zero, suc, _+_, _-_, _^_, _≤_, _<_}
 use mathlib.Core.Path.{_≡_, refl, sym, ap, _∙_}
 use mathlib.Core.Bool.{true}
-use mathlib.Core.List.{List, [], _∷_, _++_}
+use mathlib.Core.List.{List, [], _∷_}
 use native.Mathlib.Omega.{arith}
 use native.Mathlib.Nat.{add-zero}
 use borrow.Author.Tests.{leb-true, ltb-true, ltb-false, lt-ltb, le-ltb, eqb-true, eqb-false}
 use lib.Dec.{leb, ltb, eqb}
-use lib.ListN.{length, getD, length-append}
+use lib.ListN.{length, getD}
 use Rattle.base.specs.Choice.{both}
 use Rattle.base.specs.Memory.{part}
 use Rattle.base.proofs.Choice.{pick-true, pick-false, both-true, by-test, pick-holds}
@@ -17,7 +17,7 @@ use Rattle.base.proofs.Every.{every-at}
 use Rattle.base.proofs.Lists.{part-first, part-none}
 use Rattle.digits.proofs.Laws.{value-below, padded-value, printed-value, fits-of, fits-nine}
 use Rattle.classes.specs.Classes.{isAllowed, allAllowed}
-use Rattle.kept.specs.Tables.{rowSize}
+use Rattle.tables.specs.declared.Row.{Row}
 use Rattle.pieces.specs.declared.Piece.{Piece}
 use Rattle.pieces.specs.declared.Piece.the-variants.{String, Char, Digits, Digits0}
 use Rattle.splitting.specs.Split.{runClass, runAt, cutAt}
@@ -111,7 +111,7 @@ module _ (s : List ℕ) (good : allAllowed s ≡ true) (at : ℕ) where
 -- The rows one by one
 
 module _ (s : List ℕ) (f p a : ℕ) where
-  pub rows-more : (at : ℕ) → a < length s → rowsFrom s at (suc f) p a ≡ pieceRow s (pieceAt s p a) (at + a) ++ rowsFrom s at f (p + 1) (cutAt s p a)
+  pub rows-more : (at : ℕ) → a < length s → rowsFrom s at (suc f) p a ≡ pieceRow s (pieceAt s p a) (at + a) ∷ rowsFrom s at f (p + 1) (cutAt s p a)
   unfolding rowsFrom
   rows-more at h = pick-true _ _ (lt-ltb _ _ h)
 
@@ -129,17 +129,13 @@ unfolding countFrom
 count-out s zero p a h = refl
 count-out s (suc f) p a h = pick-false _ _ (le-ltb _ _ h)
 
-pub length-row : (s : List ℕ) (x : Piece) (at : ℕ) → length (pieceRow s x at) ≡ rowSize
-unfolding pieceRow
-length-row s x at = refl
-
 pub count-most : (s : List ℕ) (f p a : ℕ) → countFrom s f p a ≤ f
 unfolding countFrom
 count-most s zero p a = omega arith
 count-most s (suc f) p a =
     pick-holds (λ (n : ℕ). n ≤ suc f) (ltb a (length s)) _ _ (λ t. omega (arith, count-most s f (p + 1) (cutAt s p a))) (λ t. omega arith)
 
-pub length-rows : (s : List ℕ) (at f p a : ℕ) → length (rowsFrom s at f p a) ≡ rowSize * countFrom s f p a
+pub length-rows : (s : List ℕ) (at f p a : ℕ) → length (rowsFrom s at f p a) ≡ countFrom s f p a
 unfolding rowsFrom countFrom
 length-rows s at zero p a = refl
 length-rows s at (suc f) p a =
@@ -147,10 +143,9 @@ length-rows s at (suc f) p a =
     (λ t.
     let h : a < length s = ltb-true _ _ t in
     let n : ℕ = countFrom s f (p + 1) (cutAt s p a) in
-    let r : List ℕ = rowsFrom s at f (p + 1) (cutAt s p a) in
-    let q : length r ≡ rowSize * n = length-rows s at f (p + 1) (cutAt s p a) in
-    ap length (rows-more s f p a at h) ∙ length-append (pieceRow s (pieceAt s p a) (at + a)) r
-    ∙ omega (arith, length-row s (pieceAt s p a) (at + a), count-more s f p a h))
+    let r : List Row = rowsFrom s at f (p + 1) (cutAt s p a) in
+    let q : length r ≡ n = length-rows s at f (p + 1) (cutAt s p a) in
+    ap length (rows-more s f p a at h) ∙ omega (arith, count-more s f p a h))
     (λ t.
     let h : length s ≤ a = ltb-false _ _ t in
     ap length (rows-out s (suc f) p a at h) ∙ omega (arith, count-out s (suc f) p a h))

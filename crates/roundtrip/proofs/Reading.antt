@@ -8,9 +8,9 @@ use borrow.Author.Tests.{eqb-false, eq-eqb, ne-eqb}
 use lib.ListN.{length}
 use Rattle.base.specs.Choice.{pick}
 use Rattle.base.specs.Memory.{part}
-use Rattle.base.specs.Same.{same}
+use Rattle.comparing.specs.Same.{same}
 use Rattle.base.proofs.Choice.{pick-true, pick-false, by-test}
-use Rattle.base.proofs.Equal.{same-equal}
+use Rattle.comparing.proofs.Equal.{same-equal}
 use Rattle.base.proofs.Every.{every-none}
 use Rattle.base.proofs.Holding.{Holds, holds-none}
 use Rattle.classes.specs.Classes.{isAllowed, allAllowed}
@@ -19,21 +19,21 @@ use Rattle.block.specs.Block.{state, spanOf, endOf}
 use Rattle.block.specs.Open.{Open}
 use Rattle.block.proofs.Laws.{each-at-end}
 use Rattle.block.specs.Streams.{typeStream, dupStream, diffStream}
-use Rattle.kept.specs.declared.Entry.{Entry}
-use Rattle.kept.specs.Tables.{entrySize, rowSize, Kept, entryAt}
+use Rattle.tables.specs.declared.Entry.{Entry}
+use Rattle.tables.specs.Tables.{entrySize, Kept, entryAt, Table, rowRoom}
 use Rattle.kept.proofs.Later.{Later}
 use Rattle.kept.specs.Judgement.{counts}
 use Rattle.kept.specs.Inside.{Counted}
-use Rattle.tokens.specs.Types.{Rules}
+use Rattle.types.specs.Types.{Rules}
 use Rattle.sources.specs.Source.{Source, source, Earlier, earlier}
 use Rattle.names.specs.Names.{Draft, draft, nameOf}
-use Rattle.heads.specs.declared.Head.{Head}
-use Rattle.heads.specs.declared.Head.the-variants as head
+use Rattle.distances.specs.declared.Head.{Head}
+use Rattle.distances.specs.declared.Head.the-variants as head
 use Rattle.entries.specs.declared.Answer.the-variants as answer
 use Rattle.earlier.specs.Fits.{AllFit}
-use Rattle.entries.specs.Outcomes.{outcome}
+use Rattle.outcomes.specs.Outcomes.{outcome}
 use Rattle.heads.specs.Heads.{headOf, headPast}
-use Rattle.entries.specs.Entries.{keepOf}
+use Rattle.outcomes.specs.Keeping.{keepOf}
 use Rattle.copying.specs.Copies.{dupOf}
 use Rattle.naming.specs.Naming.{namedOf, diffOf}
 use Rattle.earlier.specs.Back.{rowsOf, none, entryBack}
@@ -54,6 +54,7 @@ use Rattle.roundtrip.proofs.Pieces.{rows-out, count-out}
 use Rattle.roundtrip.proofs.Heading.{head-past, dup-head, diff-head}
 use Rattle.roundtrip.proofs.Spelling.{Good, RowsOf, Spelt, name-back, length-split}
 use Rattle.roundtrip.proofs.Keeping.{EntryIs, entry-text, after, kept-back, after-text, after-is, after-stays, after-texts, after-names, after-rows, rows-new, rows-old}
+use Rattle.tables.proofs.Rows.{hold-none}
 
 -- each of the names is one that SAM allows
 unfoldable pub AllGood : List (List ℕ) → Type 0
@@ -70,7 +71,7 @@ pub record Reached (rules : Rules) (bytes dir cur : List ℕ) (m : Kept) (before
   pub good : AllGood coming
   pub texts : m .state .text + textWanted coming ≤ length (m .text)
   pub entries : entrySize * (m .state .names + length coming) ≤ length (m .names)
-  pub rows : rowSize * (m .state .rows + rowsFor (m .state .names) before coming) ≤ length (m .rows)
+  pub rows : m .state .rows + rowsFor (m .state .names) before coming ≤ rowRoom (m .rows)
 
 -- a read that kept the name s
 pub record ReadBack (rules : Rules) (bytes dir cur : List ℕ) (m : Kept) (before s : List ℕ) (ss : List (List ℕ)) : Type 0 where
@@ -111,14 +112,14 @@ module _ (rules : Rules) (n : ℕ) (before s : List ℕ) where
   added-diff a e = pick-false _ _ a ∙ pick-false _ _ e
 
 -- no earlier name: no rows, those of the empty split
-rows-nothing : (text rows : List ℕ) (used : ℕ) → RowsOf (earlier text rows 0 0) used []
+rows-nothing : (text : List ℕ) (rows : Table) (used : ℕ) → RowsOf (earlier text rows 0 0) used []
 unfolding splitRows tokensIn
 rows-nothing text rows used =
     record {
       origin = 0;
       text = holds-none text 0;
       below = omega arith;
-      rows = rw (rows-out [] 127 1 0 0 (omega arith)) (holds-none rows (rowSize * 0));
+      rows = rw (rows-out [] 127 1 0 0 (omega arith)) (hold-none rows 0);
       many = sym (count-out [] 127 1 0 (omega arith));
     }
 
@@ -162,7 +163,7 @@ module _ (rules : Rules) (bytes dir cur : List ℕ) (m : Kept) (before : List �
     unfolding textWanted
     text-room = omega (arith, r .texts)
 
-    row-room : rowSize * (m .state .rows + (rowsAdded k before s + rowsFor (k + 1) s ss)) ≤ length (m .rows)
+    row-room : m .state .rows + (rowsAdded k before s + rowsFor (k + 1) s ss) ≤ rowRoom (m .rows)
     unfolding rowsFor
     row-room = r .rows
 
@@ -171,14 +172,14 @@ module _ (rules : Rules) (bytes dir cur : List ℕ) (m : Kept) (before : List �
     puts ps q = subst (λ (x : List Put). Left bytes dir cur (x ++ putsFrom rules (k + 1) s ss)) q (r .left)
 
     -- what was read is kept
-    module _ (d : Draft) (text : d .text ≡ s) (whole : length (d .rows) ≡ rowSize * d .count) (count : d .count ≡ rowsAdded k before s) (first many distance : ℕ) where
+    module _ (d : Draft) (text : d .text ≡ s) (whole : length (d .rows) ≡ d .count) (count : d .count ≡ rowsAdded k before s) (first many distance : ℕ) where
       roomy : m .state .text + length s + 1 ≤ length (m .text)
       roomy = omega (arith, text-room)
 
       fits : entrySize * (k + 1) ≤ length (m .names)
       fits = let all : entrySize * (k + suc (length ss)) ≤ length (m .names) = r .entries in omega arith
 
-      enough : rowSize * (m .state .rows + d .count) ≤ length (m .rows)
+      enough : m .state .rows + d .count ≤ rowRoom (m .rows)
       enough = omega (arith, row-room, count)
 
       abbrev then : Kept
@@ -232,7 +233,7 @@ module _ (rules : Rules) (bytes dir cur : List ℕ) (m : Kept) (before : List �
         let c : 0 ≡ rowsAdded k before s = sym (added-dup rules k before s a q) in
         let old : RowsOf (earlier (m .text) (m .rows) (entry .first) (entry .rows)) (m .state .text) s =
         subst (λ (x : List ℕ). RowsOf (earlier (m .text) (m .rows) (entry .first) (entry .rows)) (m .state .text) x) is (was .1 .rows) in
-        let f : 0 ≡ rowSize * 0 = omega arith in
+        let f : length (d .rows) ≡ d .count = refl in
         kept-read d text f c (entry .first) (entry .rows) 1
         (headed (head.Dup (record { 0 = 1 })) (dup-head rules bytes dir cur k 1 (omega arith) (putsFrom rules (k + 1) s ss) (omega arith) h l)
         ∙ pick-true _ _ (r .fits (k - 1) (omega arith)))
@@ -259,7 +260,7 @@ module _ (rules : Rules) (bytes dir cur : List ℕ) (m : Kept) (before : List �
       unfolding diffOf namedOf
       diff-back =
           let d : Draft = spelt .draft in
-          let f : length (d .rows) ≡ rowSize * d .count = ap length rows ∙ length-split s (m .state .text) ∙ ap (λ (n : ℕ). rowSize * n) (sym count) in
+          let f : length (d .rows) ≡ d .count = ap length rows ∙ length-split s (m .state .text) ∙ sym count in
           let c : d .count ≡ rowsAdded k before s = count ∙ sym added in
           kept-read d (spelt .text) f c (m .state .rows) (d .count) distance
           (q ∙ ap (namedOf src m distance) (spelt .is)) (spelt .left)

@@ -21,10 +21,10 @@ use Rattle.block.specs.declared.Refusal.the-variants.{Plain, At}
 use Rattle.block.specs.Block.{Opening, opening, openOf, endOf, sound, starts, state}
 use Rattle.block.proofs.Laws.{sound-of, opens-fresh}
 use Rattle.kept.proofs.Laws.{fresh-counted}
-use Rattle.kept.specs.Tables.{entrySize, rowSize, Kept, keeping}
+use Rattle.tables.specs.Tables.{entrySize, Kept, keeping, Table, rowRoom}
 use Rattle.sources.specs.Source.{source}
 use Rattle.entries.specs.declared.Answer.the-variants as answer
-use Rattle.entries.specs.Outcomes.{Outcome, outcome}
+use Rattle.outcomes.specs.Outcomes.{Outcome, outcome}
 use Rattle.reads.specs.Reads.{readsFrom}
 use Rattle.reading.specs.Blocks.{openedOf, blockOf}
 use Rattle.laying.specs.Puts.{directoryOf, totalOf, bytesOf}
@@ -44,7 +44,7 @@ use Rattle.roundtrip.proofs.Reading.{Reached}
 use Rattle.roundtrip.proofs.Blocks.{names-at, Whole, reads-back, calls-back, calls-done}
 use Rattle.roundtrip.proofs.Spans.{directory-length, start-is, end-is, span-size, ends-within, laid, laid-out, nothing-put}
 use Rattle.roundtrip.proofs.Inputs.{all-good, listed-length, listed-back, text-most, rows-most}
-use Rattle.tokens.specs.Types.{Rules}
+use Rattle.types.specs.Types.{Rules}
 
 -- good names, few enough, and bytes that begin with what they put, written where there was room
 module _ (rules : Rules) (names : List (List ℕ)) (fine : judgedFrom 0 names ≡ Fine) (few : length names ≤ 65536) (bytes : List ℕ) (room : totalOf (putsOf rules names) ≤ length bytes)
@@ -65,7 +65,7 @@ module _ (rules : Rules) (names : List (List ℕ)) (fine : judgedFrom 0 names �
   pub opens : (cur : List ℕ) → length cur ≡ 1290 → openOf (length all) dir (length names) cur ≡ opening (opened.Fresh (state (length names) 0 0 0)) (starts dir)
   opens cur t = sym (opens-fresh (length all) dir (length names) cur (sounds cur t) few)
 
-  module _ (text table rows : List ℕ) where
+  module _ (text table : List ℕ) (rows : Table) where
     -- what is kept when they are opened
     abbrev fresh : Kept
     fresh = keeping (state (length names) 0 0 0) text table rows
@@ -117,7 +117,7 @@ module _ (rules : Rules) (names : List (List ℕ)) (fine : judgedFrom 0 names �
       (results (m .text) (m .names) (m .rows) (record { text = r .text; entries = r .entries; rows = r .rows }))
 
   -- and so does reading them one a call, from the cursors and the state that opening leaves
-  pub calls-names : (text table rows : List ℕ) → Roomy names (keeping (state (length names) 0 0 0) text table rows)
+  pub calls-names : (text table : List ℕ) (rows : Table) → Roomy names (keeping (state (length names) 0 0 0) text table rows)
       → OneByOne rules names all dir (outcome answer.Done (starts dir) (keeping (state (length names) 0 0 0) text table rows))
   calls-names text table rows r =
       let d = directory-length (putsOf rules names) in
@@ -135,7 +135,7 @@ module _ (rules : Rules) (names : List (List ℕ)) (fine : judgedFrom 0 names �
 
 -- room that always suffices: 255 bytes of text, an entry and 127 rows a name
 pub roomy-most : (names : List (List ℕ)) (m : Kept) → judgedFrom 0 names ≡ Fine → 255 * length names ≤ length (m .text) → entrySize * length names ≤ length (m .names)
-    → 127 * rowSize * length names ≤ length (m .rows) → Roomy names m
+    → 127 * length names ≤ rowRoom (m .rows) → Roomy names m
 roomy-most names m fine t e r =
     record { text = omega (arith, text-most names (all-good names 0 fine)); entries = e; rows = omega (arith, rows-most names) }
 
@@ -216,14 +216,14 @@ module _ (rules : Rules) (input dir bytes : List ℕ) (n total : ℕ) (e : write
         })
 
     -- 255 bytes of text, an entry and 127 rows a name are always enough
-    pub written-back-most : (cur : List ℕ) (m : Kept) → length cur ≡ 1290 → 255 * n ≤ length (m .text) → entrySize * n ≤ length (m .names) → 127 * rowSize * n ≤ length (m .rows)
+    pub written-back-most : (cur : List ℕ) (m : Kept) → length cur ≡ 1290 → 255 * n ≤ length (m .text) → entrySize * n ≤ length (m .names) → 127 * n ≤ rowRoom (m .rows)
         → InputBack input (blockOf (source rules b (writeOf rules input dir bytes .directory) cur) m n)
     written-back-most cur m t x y z =
         let q : n ≡ length names = accepted .names in
         written-back cur m t (roomy-most names m (accepted .fine) (omega arith) (omega arith) (omega arith))
 
     -- and one name a call
-    pub written-calls : (text table rows : List ℕ) → Roomy names (keeping (state n 0 0 0) text table rows)
+    pub written-calls : (text table : List ℕ) (rows : Table) → Roomy names (keeping (state n 0 0 0) text table rows)
         → OneByOne rules names b (writeOf rules input dir bytes .directory)
         (outcome answer.Done (starts (writeOf rules input dir bytes .directory)) (keeping (state n 0 0 0) text table rows))
     written-calls text table rows r =

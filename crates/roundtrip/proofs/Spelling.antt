@@ -14,14 +14,13 @@ use Rattle.base.proofs.Lists.{take-part}
 use Rattle.base.proofs.Memory.{length-part, getD-part}
 use Rattle.base.proofs.Numbers.{lt-or-ge}
 use Rattle.base.proofs.Every.{every-at, every-of}
-use Rattle.base.proofs.Holding.{Holds, holds-none, holds-left, holds-right, holds-inner}
+use Rattle.base.proofs.Holding.{Holds, holds-inner}
 use Rattle.classes.specs.Classes.{isAllowed, allAllowed}
 use Rattle.block.specs.Block.{spanOf, cursorOf}
 use Rattle.tokens.specs.declared.Token.{Token}
 use Rattle.tokens.specs.Tokens.{bytesOf}
-use Rattle.kept.specs.declared.Row.{Row}
-use Rattle.kept.proofs.Frame.{row-holds}
-use Rattle.kept.specs.Tables.{rowSize}
+use Rattle.tables.specs.declared.Row.{Row}
+use Rattle.tables.proofs.Rows.{RowsHold, hold-none, hold-first, hold-rest}
 use Rattle.values.specs.declared.Step.{Step}
 use Rattle.values.specs.declared.Step.the-variants as step
 use Rattle.sources.specs.Source.{Source, source, Earlier}
@@ -39,10 +38,10 @@ use Rattle.splitting.proofs.Runs.{cut-range, cut-out, cut-before}
 use Rattle.tokenputs.specs.TokenPuts.{choicePuts, tokenPuts}
 use Rattle.roundtrip.specs.Rows.{pieceBytes, pieceKind, pieceNumber, pieceWidth, pieceRow, rowsFrom, countFrom, splitRows, tokensIn}
 use Rattle.roundtrip.proofs.Eating.{Left, eaten, left-eaten, eaten-later}
-use Rattle.roundtrip.proofs.Pieces.{piece-cut, rows-more, rows-out, count-more, count-out, count-most, length-row, length-rows}
+use Rattle.roundtrip.proofs.Pieces.{piece-cut, rows-more, rows-out, count-more, count-out, count-most, length-rows}
 use Rattle.roundtrip.proofs.Leaning.{RowIs, Here, choice-right}
 use Rattle.roundtrip.proofs.Stepping.{choice-between, Resolved, resolved, ended-back, ended-past}
-use Rattle.tokens.specs.Types.{Rules}
+use Rattle.types.specs.Types.{Rules}
 
 -- what SAM allows as a name, as facts
 pub record Good (s : List ℕ) : Type 0 where
@@ -52,12 +51,12 @@ pub record Good (s : List ℕ) : Type 0 where
 
 -- the rows of an earlier name are those of r's split, r's text standing at `origin`: from position p on, where a token of r begins at b
 pub record RowsAt (e : Earlier) (origin : ℕ) (r : List ℕ) (f p b : ℕ) : Type 0 where
-  pub rows : Holds (e .rows) (rowSize * (e .first + (p - 1))) (rowsFrom r origin f p b)
+  pub rows : RowsHold (e .rows) (e .first + (p - 1)) (rowsFrom r origin f p b)
   pub many : b < length r → e .count ≡ p - 1 + countFrom r f p b
 
 module _ (e : Earlier) (origin : ℕ) (r : List ℕ) (allowed : allAllowed r ≡ true) (text : Holds (e .text) origin r) (f p b : ℕ) (low : 1 ≤ p) (at : RowsAt e origin r (suc f) p b) where
-  both-rows : b < length r → Holds (e .rows) (rowSize * (e .first + (p - 1))) (pieceRow r (pieceAt r p b) (origin + b) ++ rowsFrom r origin f (p + 1) (cutAt r p b))
-  both-rows h = subst (λ (l : List ℕ). Holds (e .rows) (rowSize * (e .first + (p - 1))) l) (rows-more r f p b origin h) (at .rows)
+  both-rows : b < length r → RowsHold (e .rows) (e .first + (p - 1)) (pieceRow r (pieceAt r p b) (origin + b) ∷ rowsFrom r origin f (p + 1) (cutAt r p b))
+  both-rows h = subst (RowsHold (e .rows) (e .first + (p - 1))) (rows-more r f p b origin h) (at .rows)
 
   abbrev here : Row
   here =
@@ -67,8 +66,7 @@ module _ (e : Earlier) (origin : ℕ) (r : List ℕ) (allowed : allAllowed r ≡
   row-there : b < length r → rowHere e p ≡ here
   unfolding rowHere pieceRow
   row-there h =
-      row-holds (e .rows) (e .first + (p - 1)) here
-      (holds-left (e .rows) (rowSize * (e .first + (p - 1))) (pieceRow r (pieceAt r p b) (origin + b)) (rowsFrom r origin f (p + 1) (cutAt r p b)) (both-rows h))
+      hold-first (e .rows) (e .first + (p - 1)) here (rowsFrom r origin f (p + 1) (cutAt r p b)) (both-rows h)
 
   row-start : b < length r → rowHere e p .start ≡ origin + b
   row-start h = ap (λ (x : Row). x .start) (row-there h)
@@ -92,10 +90,10 @@ module _ (e : Earlier) (origin : ℕ) (r : List ℕ) (allowed : allAllowed r ≡
   next-in : b < length r → RowsAt e origin r f (p + 1) (cutAt r p b)
   next-in h =
       let i : ℕ = e .first + (p - 1) in
-      let row : List ℕ = pieceRow r (pieceAt r p b) (origin + b) in
-      let n : rowSize * i + length row ≡ rowSize * (e .first + (p + 1 - 1)) = omega (arith, length-row r (pieceAt r p b) (origin + b)) in
+      let row : Row = pieceRow r (pieceAt r p b) (origin + b) in
+      let n : i + 1 ≡ e .first + (p + 1 - 1) = omega arith in
       record {
-        rows = subst (λ (k : ℕ). Holds (e .rows) k (rowsFrom r origin f (p + 1) (cutAt r p b))) n (holds-right (e .rows) (rowSize * i) row (rowsFrom r origin f (p + 1) (cutAt r p b)) (both-rows h));
+        rows = subst (λ (k : ℕ). RowsHold (e .rows) k (rowsFrom r origin f (p + 1) (cutAt r p b))) n (hold-rest (e .rows) i row (rowsFrom r origin f (p + 1) (cutAt r p b)) (both-rows h));
         many = λ g. omega (arith, at .many h, count-more r f p b h);
       }
 
@@ -103,7 +101,7 @@ module _ (e : Earlier) (origin : ℕ) (r : List ℕ) (allowed : allAllowed r ≡
   next-out h =
       let q : cutAt r p b ≡ b = cut-out r p b h in
       record {
-        rows = rw (rows-out r f (p + 1) (cutAt r p b) origin (omega arith)) (holds-none (e .rows) _);
+        rows = rw (rows-out r f (p + 1) (cutAt r p b) origin (omega arith)) (hold-none (e .rows) _);
         many = λ g. absurd (omega arith);
       }
 
@@ -155,7 +153,7 @@ module _ (rules : Rules) (bytes dir cur : List ℕ) (e : Earlier) (used origin :
             ap (λ (st : Step). onward src e used p d st (nameFrom src e used f (p + 1))) z
             ∙ pick-false _ _ (ne-eqb (length (d .text)) 0 (λ w. omega (arith, good .some)));
         text = all;
-        rows = sym (ap (λ (l : List ℕ). d .rows ++ l) (rows-out s n p a used (omega arith)) ∙ append-nil (d .rows));
+        rows = sym (ap (λ (l : List Row). d .rows ++ l) (rows-out s n p a used (omega arith)) ∙ append-nil (d .rows));
         count = omega (arith, count-out s n p a (omega arith));
         left = ended-past rules bytes dir (d .cur) p s rest h own;
       }
@@ -222,9 +220,9 @@ module _ (rules : Rules) (bytes dir cur : List ℕ) (e : Earlier) (used origin :
         let range = cut-range s a h p in
         ap (λ (x : List ℕ). x ++ bytesOf bytes (e .text) got) t ∙ ap (λ (x : List ℕ). take a s ++ x) prints ∙ take-part s a c (omega arith)
 
-    more-rows : more .rows ≡ d .rows ++ pieceRow s (pieceAt s p a) (used + a)
+    more-rows : more .rows ≡ d .rows ++ (pieceRow s (pieceAt s p a) (used + a) ∷ [])
     unfolding grown
-    more-rows = ap (λ (x : List ℕ). d .rows ++ x) (token-back .same .row (used + length (d .text)) ∙ ap (λ (n : ℕ). pieceRow s (pieceAt s p a) (used + n)) a-length)
+    more-rows = ap (λ (x : Row). d .rows ++ (x ∷ [])) (token-back .same .row (used + length (d .text)) ∙ ap (λ (n : ℕ). pieceRow s (pieceAt s p a) (used + n)) a-length)
 
     more-count : more .count ≡ d .count + 1
     unfolding grown
@@ -256,9 +254,9 @@ module _ (rules : Rules) (bytes dir cur : List ℕ) (e : Earlier) (used origin :
           is = onward-more ∙ g .is;
           text = g .text;
           rows =
-              g .rows ∙ ap (λ (x : List ℕ). x ++ rowsFrom s used f (p + 1) c) more-rows
-              ∙ append-assoc (d .rows) (pieceRow s (pieceAt s p a) (used + a)) (rowsFrom s used f (p + 1) c)
-              ∙ ap (λ (x : List ℕ). d .rows ++ x) (sym (rows-more s f p a used h));
+              g .rows ∙ ap (λ (x : List Row). x ++ rowsFrom s used f (p + 1) c) more-rows
+              ∙ append-assoc (d .rows) (pieceRow s (pieceAt s p a) (used + a) ∷ []) (rowsFrom s used f (p + 1) c)
+              ∙ ap (λ (x : List Row). d .rows ++ x) (sym (rows-more s f p a used h));
           count = omega (arith, g .count, more-count, count-more s f p a h);
           left = g .left;
         }
@@ -290,14 +288,14 @@ pub record RowsOf (e : Earlier) (used : ℕ) (r : List ℕ) : Type 0 where
   pub origin : ℕ
   pub text : Holds (e .text) origin r
   pub below : origin + length r ≤ used
-  pub rows : Holds (e .rows) (rowSize * e .first) (splitRows r origin)
+  pub rows : RowsHold (e .rows) (e .first) (splitRows r origin)
   pub many : e .count ≡ tokensIn r
 
 pub rows-at : (e : Earlier) (used : ℕ) (r : List ℕ) (o : RowsOf e used r) → RowsAt e (o .origin) r 127 1 0
 unfolding splitRows tokensIn
 rows-at e used r o =
-    let n : rowSize * e .first ≡ rowSize * (e .first + (1 - 1)) = omega arith in
-    record { rows = subst (λ (k : ℕ). Holds (e .rows) k (splitRows r (o .origin))) n (o .rows); many = λ h. omega (arith, o .many) }
+    let n : e .first ≡ e .first + (1 - 1) = omega arith in
+    record { rows = subst (λ (k : ℕ). RowsHold (e .rows) k (splitRows r (o .origin))) n (o .rows); many = λ h. omega (arith, o .many) }
 
 -- a name read back, after an earlier one that is r
 pub name-back : (rules : Rules) (bytes dir cur now : List ℕ) (e : Earlier) (used : ℕ) (r s : List ℕ) (rest : List Put) → allAllowed r ≡ true → Good s → RowsOf e used r
@@ -312,6 +310,6 @@ pub tokens-most : (r : List ℕ) → tokensIn r ≤ 127
 unfolding tokensIn
 tokens-most r = count-most r 127 1 0
 
-pub length-split : (r : List ℕ) (at : ℕ) → length (splitRows r at) ≡ rowSize * tokensIn r
+pub length-split : (r : List ℕ) (at : ℕ) → length (splitRows r at) ≡ tokensIn r
 unfolding splitRows tokensIn
 length-split r at = length-rows r at 127 1 0

@@ -10,7 +10,7 @@ use Rattle.writing.specs.declared.WriteAnswer.the-variants.{Written}
 use Rattle.inputs.specs.Inputs.{namesOf, ended, judgedFrom}
 use Rattle.nameputs.specs.NamePuts.{putsOf}
 use Rattle.writing.specs.Writes.{writing, writeOf}
-use Rattle.tokens.specs.Types.{Rules}
+use Rattle.types.specs.Types.{Rules}
 
 pub record Accepted (rules : Rules) (input dir bytes : List ℕ) (n total : ℕ) : Type 0 where
   pub ends : ended input ≡ true

@@ -5,10 +5,10 @@ use mathlib.Core.List.{List, []}
 use lib.ListN.{length, take}
 use Rattle.block.specs.declared.Opened.the-variants as opened
 use Rattle.block.specs.Block.{state, starts, opening, openOf}
-use Rattle.kept.specs.Tables.{entrySize, rowSize, Kept, keeping}
+use Rattle.tables.specs.Tables.{entrySize, Kept, keeping, rowRoom, Table}
 use Rattle.sources.specs.Source.{source}
 use Rattle.entries.specs.declared.Answer.the-variants as answer
-use Rattle.entries.specs.Outcomes.{outcome}
+use Rattle.outcomes.specs.Outcomes.{outcome}
 use Rattle.reading.specs.Blocks.{blockOf}
 use Rattle.writing.specs.declared.WriteAnswer.the-variants.{Written}
 use Rattle.inputs.specs.Inputs.{namesOf}
@@ -16,7 +16,7 @@ use Rattle.writing.specs.Writes.{writeOf}
 use Rattle.nameputs.specs.NamePuts.{putsOf}
 use Rattle.roundtrip.specs.Layout.{LaidOut}
 use Rattle.roundtrip.specs.Back.{Roomy, InputBack, OneByOne}
-use Rattle.tokens.specs.Types.{Rules}
+use Rattle.types.specs.Types.{Rules}
 
 -- bytes that begin with the first so many of those written, whatever comes after them: those that writing left, and a buffer cut to the total
 abbrev pub Begins : ℕ → List ℕ → List ℕ → Type 0
@@ -36,7 +36,7 @@ abbrev pub ReadsBackAmply : Type 0
 ReadsBackAmply =
     (rules : Rules) (input dir bytes : List ℕ) (n total : ℕ) → writeOf rules input dir bytes .answer ≡ Written n total
     → (b : List ℕ) → Begins total (writeOf rules input dir bytes .bytes) b
-    → (cur : List ℕ) (m : Kept) → length cur ≡ 1290 → 255 * n ≤ length (m .text) → entrySize * n ≤ length (m .names) → 127 * rowSize * n ≤ length (m .rows)
+    → (cur : List ℕ) (m : Kept) → length cur ≡ 1290 → 255 * n ≤ length (m .text) → entrySize * n ≤ length (m .names) → 127 * n ≤ rowRoom (m .rows)
     → InputBack input (blockOf (source rules b (writeOf rules input dir bytes .directory) cur) m n)
 
 -- and so does reading one name a call, from the state and the cursors that opening leaves
@@ -44,7 +44,7 @@ abbrev pub ReadsOneByOne : Type 0
 ReadsOneByOne =
     (rules : Rules) (input dir bytes : List ℕ) (n total : ℕ) → writeOf rules input dir bytes .answer ≡ Written n total
     → (b : List ℕ) → Begins total (writeOf rules input dir bytes .bytes) b
-    → (text table rows : List ℕ) → Roomy (namesOf input) (keeping (state n 0 0 0) text table rows)
+    → (text table : List ℕ) (rows : Table) → Roomy (namesOf input) (keeping (state n 0 0 0) text table rows)
     → OneByOne rules (namesOf input) b (writeOf rules input dir bytes .directory)
     (outcome answer.Done (starts (writeOf rules input dir bytes .directory)) (keeping (state n 0 0 0) text table rows))
 

@@ -3,7 +3,7 @@ use Prim.Native.Nat.{ℕ, _+_}
 use mathlib.Core.List.{List, [], _∷_, _++_}
 use lib.ListN.{length}
 use Rattle.base.specs.Choice.{pick}
-use Rattle.base.specs.Same.{same}
+use Rattle.comparing.specs.Same.{same}
 use Rattle.references.specs.References.{anew}
 use Rattle.roundtrip.specs.Rows.{tokensIn}
 

@@ -15,11 +15,12 @@ use Rattle.spans.specs.declared.Cursor.{Cursor}
 use Rattle.spans.specs.declared.NextByte.{NextByte}
 use Rattle.block.specs.Block.{spanOf, cursorOf}
 use Rattle.block.specs.Open.{Open}
-use Rattle.tokens.specs.declared.TokenType.the-variants as type
+use Rattle.types.specs.declared.TokenType.the-variants as type
 use Rattle.tokens.specs.declared.Token.{Token}
 use Rattle.tokens.specs.Tokens.{bytesOf, rowOf}
-use Rattle.tokens.specs.Types.{Rules}
-use Rattle.kept.specs.Tables.{rowSize, rowAt}
+use Rattle.types.specs.Types.{Rules}
+use Rattle.tables.specs.declared.Row.{Row}
+use Rattle.tables.specs.Tables.{Table, rowAt}
 use Rattle.values.specs.declared.Step.the-variants as step
 use Rattle.sources.specs.Source.{Source, source, Earlier, byteIn}
 use Rattle.repeats.specs.Repeats.{tokenOf}
@@ -33,7 +34,7 @@ use Rattle.names.specs.Names.{Draft, draft, named, refused, typeIn, typeAt, gro
 use Rattle.moving.specs.Moves.{past, valuePast}
 use Rattle.repeating.specs.Repeats.{Spelt, RowsSpelt}
 use Rattle.runs.specs.Runs.{isMatch}
-use Rattle.repeating.specs.Repeating.{movedRows, typesPast}
+use Rattle.repeating.specs.Repeating.{movedRow, movedRows, typesPast}
 use Rattle.names.proofs.Cursors.{open-typed}
 use Rattle.moving.proofs.Moves.{past-later}
 use Rattle.names.proofs.Growing.{never-named}
@@ -77,7 +78,7 @@ module _ (s : Source) (e : Earlier) (used : ℕ) (k : Rows used e) (spelt : Rows
   allowed = ap allAllowed prints ∙ here .allowed
 
   row-is : (at : ℕ)
-      → rowOf token at ≡ rowAt (e .rows) i .kind ∷ rowAt (e .rows) i .number ∷ rowAt (e .rows) i .width ∷ at ∷ rowAt (e .rows) i .length ∷ []
+      → rowOf token at ≡ movedRow (rowAt (e .rows) i) at
   unfolding rowOf
   row-is at = rw (← here .kind, ← here .number, ← here .width, ← here .length)
 
@@ -128,7 +129,7 @@ ranOn e used i p n d = draft
     (d .count + n)
     (typesPast (d .cur) p n)
 
-draft-same : {t t' r r' c c' : List ℕ} {n n' : ℕ} → t ≡ t' → r ≡ r' → n ≡ n' → c ≡ c' → draft t r n c ≡ draft t' r' n' c'
+draft-same : {t t' c c' : List ℕ} {r r' : List Row} {n n' : ℕ} → t ≡ t' → r ≡ r' → n ≡ n' → c ≡ c' → draft t r n c ≡ draft t' r' n' c'
 draft-same a b x y = cc
 
 ran-none-on : (e : Earlier) (used i p : ℕ) (d : Draft) → ranOn e used i p 0 d ≡ d
@@ -167,14 +168,14 @@ module _ (s : Source) (e : Earlier) (used : ℕ) (k : Rows used e) (spelt : Rows
         ∙ ap (λ (x : List ℕ). part (e .text) (rowAt (e .rows) i .start) (rowAt (e .rows) i .start + rowAt (e .rows) i .length) ++ x) (behind n i (omega arith) (omega arith))
         ∙ part-next (e .text) (rowAt (e .rows) i .start) (rowAt (e .rows) i .length) (textSize (e .rows) (i + 1) n))
 
-    rows-more : (d .rows ++ rowOf (token s e used k spelt p i low there is m) (used + length (d .text))) ++ movedRows (e .rows) (i + 1) n (used + length (d .text ++ said))
+    rows-more : (d .rows ++ (rowOf (token s e used k spelt p i low there is m) (used + length (d .text)) ∷ [])) ++ movedRows (e .rows) (i + 1) n (used + length (d .text ++ said))
         ≡ d .rows ++ movedRows (e .rows) i (suc n) (used + length (d .text))
     unfolding movedRows
     rows-more =
         let at = used + length (d .text) in
         let a : used + length (d .text ++ said) ≡ used + length (d .text) + rowAt (e .rows) i .length = omega (arith, more-text) in
         append-assoc (d .rows) _ _
-        ∙ ap (λ (x : List ℕ). d .rows ++ (x ++ movedRows (e .rows) (i + 1) n (used + length (d .text ++ said)))) (row-is s e used k spelt p i low there is m at)
+        ∙ ap (λ (x : Row). d .rows ++ (x ∷ movedRows (e .rows) (i + 1) n (used + length (d .text ++ said)))) (row-is s e used k spelt p i low there is m at)
         ∙ rw a
 
     ran-more : ranOn e used (i + 1) (p + 1) n more ≡ ranOn e used i p (suc n) d
@@ -207,11 +208,11 @@ module _ (s : Source) (e : Earlier) (used : ℕ) (k : Rows used e) (spelt : Rows
       (name-one p f (n + g) d D (omega arith) (steps s e used k spelt p i low there is h) inv)
 
 -- what a run adds to a name
-pub length-moved : (rows : List ℕ) (n i at : ℕ) → length (movedRows rows i n at) ≡ rowSize * n
+pub length-moved : (rows : Table) (n i at : ℕ) → length (movedRows rows i n at) ≡ n
 unfolding movedRows
 length-moved rows zero i at = refl
 length-moved rows (suc n) i at =
-    omega (arith, length-append (rowAt rows i .kind ∷ rowAt rows i .number ∷ rowAt rows i .width ∷ at ∷ rowAt rows i .length ∷ []) (movedRows rows (i + 1) n (at + rowAt rows i .length)), length-moved rows n (i + 1) (at + rowAt rows i .length))
+    omega (arith, length-moved rows n (i + 1) (at + rowAt rows i .length))
 
 -- the cursors past a run
 pub types-later : (n : ℕ) (cur : List ℕ) (p j : ℕ) → 10 * (p + n) ≤ j → cursorOf (typesPast cur p n) j ≡ cursorOf cur j

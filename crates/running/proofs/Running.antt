@@ -7,7 +7,7 @@ use mathlib.Core.Logic.{_⊎_, inl, inr}
 use native.Mathlib.Omega.{arith}
 use borrow.Author.Tests.{lt-ltb}
 use lib.Dec.{ltb}
-use lib.ListN.{length, getD, take, length-append}
+use lib.ListN.{length, take, length-append}
 use Rattle.base.specs.Memory.{part, written}
 use Rattle.base.proofs.Choice.{pick-true, pick-false, both-of, both-left}
 use Rattle.base.proofs.Memory.{length-part, written-next}
@@ -15,12 +15,10 @@ use Rattle.base.proofs.Numbers.{by-order}
 use Rattle.base.specs.Every.{Below}
 use Rattle.spans.specs.declared.Position.{Position}
 use Rattle.block.specs.Block.{spanOf, cursorOf}
-use Rattle.tokens.specs.Types.{Rules}
+use Rattle.types.specs.Types.{Rules}
 use Rattle.base.proofs.Below.{take-written}
-use Rattle.kept.specs.Tables.{rowSize, rowAt}
+use Rattle.tables.specs.Tables.{Table, rowRoom, rowAt, putRows}
 use Rattle.kept.specs.Inside.{RowInside}
-use Rattle.kept.proofs.Frame as frame
-use Rattle.kept.proofs.Frame.{alike-written, row-alike}
 use Rattle.sources.specs.Source.{Source, source, Earlier, earlier}
 use Rattle.repeats.specs.Sound.{Rows}
 use Rattle.steps.proofs.Laws.{Known}
@@ -35,7 +33,7 @@ use Rattle.repeating.specs.Repeats.{RowsSpelt}
 use Rattle.runs.specs.Runs.{isMatch, runEnd, textStart, textLength}
 use Rattle.repeating.specs.Repeating.{movedRows, typesPast}
 use Rattle.running.specs.Running.{Reaches, onAt, runOf, runPut}
-use Rattle.names.proofs.Growing.{grows, Alike, name-same}
+use Rattle.names.proofs.Growing.{grows, name-same}
 use Rattle.names.proofs.Judgement.{judgeFrom, judge-from}
 use Rattle.names.proofs.Behind.{Stays, stays}
 use Rattle.names.proofs.Turns.{Going}
@@ -44,6 +42,7 @@ use Rattle.runs.proofs.Matches.{run-matches}
 use Rattle.running.proofs.Runs.{run-few, run-spelt, ran-none, ran-on, ran-long, puts-none}
 use Rattle.running.proofs.OneByOne.{judge-run, judge-long, ranOn, name-run, length-moved, types-later, types-open}
 use Rattle.repeating.proofs.Spelling.{rows-spelt-same}
+use Rattle.tables.proofs.Rows.{SameRows, RowsBelow, below-put, put-next}
 
 never-on : {q l : ℕ} → Long ≡ onAt q l → ⊥
 never-on h = let z : _≡_ {A = ℕ} 0 1 = cc in omega arith
@@ -135,15 +134,15 @@ run-leaves e used row p len (On q l) m = pick-false _ m (both-left (ltb p (q .0)
 run-leaves e used row p len Long m = refl
 
 -- what the earlier name's rows tell stays so while a name is kept behind them
-pub going-reaches : (rules : Rules) (bytes dir text₀ rows₀ : List ℕ) (first count used row : ℕ) (n : Named) (room : Roomy n (first + count) used row text₀ rows₀)
-    (cur text rows : List ℕ) (p at : ℕ) → Going rules bytes dir text₀ rows₀ first count used row (draftOf n) cur text rows p at
+pub going-reaches : (rules : Rules) (bytes dir text₀ : List ℕ) (rows₀ : Table) (first count used row : ℕ) (n : Named) (room : Roomy n (first + count) used row text₀ rows₀)
+    (cur text : List ℕ) (rows : Table) (p at : ℕ) → Going rules bytes dir text₀ rows₀ first count used row (draftOf n) cur text rows p at
     → (end : ℕ) → Reaches end (earlier text₀ rows₀ first count) → Reaches end (earlier text rows first count)
 going-reaches rules bytes dir text₀ rows₀ first count used row n room cur text rows p at g end r = (
   λ h.
-      let alike : frame.Alike rows₀ rows (rowSize * (first + count)) =
-      λ j l. sym (ap (λ (x : List ℕ). getD x j 0) (g .table) ∙ alike-written rows₀ (rowSize * row) (g .d .rows) (rowSize * (first + count)) (omega (arith, room .behind)) (omega (arith, room .table)) j l) in
+      let alike : SameRows rows₀ rows (first + count) =
+      λ j l. sym (ap (λ (x : Table). rowAt x j) (g .table) ∙ below-put rows₀ row (g .d .rows) (first + count) (room .behind) (omega (arith, room .table)) j l) in
       rows-spelt-same text₀ text rows₀ rows first count used
-      (λ j a b. subst (RowInside used) (sym (row-alike rows₀ rows (first + count) alike j b)) (g .known .each j a b))
+      (λ j a b. subst (RowInside used) (sym (alike j b)) (g .known .each j a b))
       (sym (ap (take used) (g .texts) ∙ take-written text₀ used (g .d .text) used (omega arith) (omega (arith, room .bytes))))
       alike
       (r .0 h),
@@ -151,9 +150,9 @@ going-reaches rules bytes dir text₀ rows₀ first count used row n room cur te
 )
 
 -- kept
-module _ (rules : Rules) (bytes dir text₀ rows₀ : List ℕ) (first count used row : ℕ) (n : Named) (room : Roomy n (first + count) used row text₀ rows₀)
+module _ (rules : Rules) (bytes dir text₀ : List ℕ) (rows₀ : Table) (first count used row : ℕ) (n : Named) (room : Roomy n (first + count) used row text₀ rows₀)
     (bytesBelow : Below 256 bytes) (dirBelow : Below (2 ^ 32) dir)
-    (cur text rows : List ℕ) (p len : ℕ) (g : Going rules bytes dir text₀ rows₀ first count used row (draftOf n) cur text rows p (used + len))
+    (cur text : List ℕ) (rows : Table) (p len : ℕ) (g : Going rules bytes dir text₀ rows₀ first count used row (draftOf n) cur text rows p (used + len))
     (end : ℕ) (r : Reaches end (earlier text rows first count)) where
   judges-whole : judgeFrom (source rules bytes dir cur) (earlier text rows first count) (129 - p) p len (p - 1) ≡ summary (named (draftOf n))
   judges-whole =
@@ -220,21 +219,21 @@ module _ (rules : Rules) (bytes dir text₀ rows₀ : List ℕ) (first count use
     unfolding after ranOn
     after-count = let some = w .some in omega (arith, g .counted)
 
-    after-rows : length (after .rows) ≡ rowSize * after .count
+    after-rows : length (after .rows) ≡ after .count
     unfolding after ranOn
     after-rows =
         omega (arith, length-append (g .d .rows) (movedRows rows (first + (p - 1)) (suc (q - p - 1)) (used + length (g .d .text))), length-moved rows (suc (q - p - 1)) (first + (p - 1)) (used + length (g .d .text)), g .whole)
 
-    some-room : (used + l ≤ length text) × (rowSize * (row + (q - 1)) ≤ length rows)
+    some-room : (used + l ≤ length text) × (row + (q - 1) ≤ rowRoom rows)
     some-room =
         let z = grows (source rules bytes dir cur) (earlier text rows first count) used (129 - q) q after (draftOf n) ran-goes in (
           omega (arith, z .longer, after-text, room .bytes, g .lengthText),
-          omega (arith, z .more, after-count, room .table, g .lengthRows),
+          omega (arith, z .more, after-count, room .table, g .roomRows),
         )
 
-    module _ (text' rows' cur' : List ℕ) (m : memory text' rows' cur' ≡ runPut true (earlier text rows first count) used row p len (onAt q l) (memory text rows cur)) where
+    module _ (text' : List ℕ) (rows' : Table) (cur' : List ℕ) (m : memory text' rows' cur' ≡ runPut true (earlier text rows first count) used row p len (onAt q l) (memory text rows cur)) where
       put-is : memory text' rows' cur' ≡ memory (written text (used + len) again)
-          (written rows (rowSize * (row + (p - 1))) (movedRows rows (first + (p - 1)) (suc (q - p - 1)) (used + len)))
+          (putRows rows (row + (p - 1)) (movedRows rows (first + (p - 1)) (suc (q - p - 1)) (used + len)))
           (typesPast cur p (suc (q - p - 1)))
       unfolding runPut textStart
       put-is =
@@ -243,14 +242,14 @@ module _ (rules : Rules) (bytes dir text₀ rows₀ : List ℕ) (first count use
           let b : q - p ≡ suc (q - p - 1) = omega arith in
           m ∙ pick-true _ (memory text rows cur) (both-of refl (lt-ltb p q some))
           ∙ ap (λ (x : ℕ). memory (written text (used + len) (part text start (start + x)))
-          (written rows (rowSize * (row + (p - 1))) (movedRows rows (first + (p - 1)) (q - p) (used + len))) (typesPast cur p (q - p))) a
+          (putRows rows (row + (p - 1)) (movedRows rows (first + (p - 1)) (q - p) (used + len))) (typesPast cur p (q - p))) a
           ∙ ap (λ (x : ℕ). memory (written text (used + len) again)
-          (written rows (rowSize * (row + (p - 1))) (movedRows rows (first + (p - 1)) x (used + len))) (typesPast cur p x)) b
+          (putRows rows (row + (p - 1)) (movedRows rows (first + (p - 1)) x (used + len))) (typesPast cur p x)) b
 
       text-is : text' ≡ written text (used + len) again
       text-is = ap (λ (x : Memory). x .text) put-is
 
-      rows-is : rows' ≡ written rows (rowSize * (row + (p - 1))) (movedRows rows (first + (p - 1)) (suc (q - p - 1)) (used + len))
+      rows-is : rows' ≡ putRows rows (row + (p - 1)) (movedRows rows (first + (p - 1)) (suc (q - p - 1)) (used + len))
       rows-is = ap (λ (x : Memory). x .rows) put-is
 
       cur-is : cur' ≡ typesPast cur p (suc (q - p - 1))
@@ -260,7 +259,7 @@ module _ (rules : Rules) (bytes dir text₀ rows₀ : List ℕ) (first count use
       text-room : used + len + length again ≤ length text
       text-room = omega (arith, some-room .0, wide-is, length-again)
 
-      rows-room : rowSize * (row + (p - 1)) + length (movedRows rows (first + (p - 1)) (suc (q - p - 1)) (used + len)) ≤ length rows
+      rows-room : row + (p - 1) + length (movedRows rows (first + (p - 1)) (suc (q - p - 1)) (used + len)) ≤ rowRoom rows
       rows-room =
           let some = w .some in
           omega (arith, some-room .1, g .low, length-moved rows (suc (q - p - 1)) (first + (p - 1)) (used + len))
@@ -291,21 +290,21 @@ module _ (rules : Rules) (bytes dir text₀ rows₀ : List ℕ) (first count use
           ∙ ap (λ (x : List ℕ). written x (used + length (g .d .text)) again) (g .texts)
           ∙ written-next text₀ used (g .d .text) again (omega (arith, text-room, g .place, g .lengthText))
 
-      rows-after : rows' ≡ written rows₀ (rowSize * row) (after .rows)
+      rows-after : rows' ≡ putRows rows₀ row (after .rows)
       unfolding after ranOn
       rows-after =
           let moved = movedRows rows (first + (p - 1)) (suc (q - p - 1)) (used + length (g .d .text)) in
-          let at-row : rowSize * (row + (p - 1)) ≡ rowSize * row + length (g .d .rows) = omega (arith, g .whole, g .counted) in
-          rows-is ∙ ap (λ (x : ℕ). written rows (rowSize * (row + (p - 1))) (movedRows rows (first + (p - 1)) (suc (q - p - 1)) x)) (g .place)
-          ∙ ap (λ (x : ℕ). written rows x moved) at-row
-          ∙ ap (λ (x : List ℕ). written x (rowSize * row + length (g .d .rows)) moved) (g .table)
-          ∙ written-next rows₀ (rowSize * row) (g .d .rows) moved (omega (arith, rows-room, g .whole, g .counted, g .lengthRows))
+          let at-row : row + (p - 1) ≡ row + length (g .d .rows) = omega (arith, g .whole, g .counted) in
+          rows-is ∙ ap (λ (x : ℕ). putRows rows (row + (p - 1)) (movedRows rows (first + (p - 1)) (suc (q - p - 1)) x)) (g .place)
+          ∙ ap (λ (x : ℕ). putRows rows x moved) at-row
+          ∙ ap (λ (x : Table). putRows x (row + length (g .d .rows)) moved) (g .table)
+          ∙ put-next rows₀ row (g .d .rows) moved (omega (arith, rows-room, g .whole, g .counted, g .roomRows))
 
       cur-after : cur' ≡ after .cur
       unfolding after ranOn
       cur-after = cur-is ∙ ap (λ (x : List ℕ). typesPast x p (suc (q - p - 1))) (g .cursors)
 
-      some-keeps : Below 256 text' → Below (2 ^ 32) rows' → Going rules bytes dir text₀ rows₀ first count used row (draftOf n) cur' text' rows' q (used + l)
+      some-keeps : Below 256 text' → RowsBelow (2 ^ 32) rows' → Going rules bytes dir text₀ rows₀ first count used row (draftOf n) cur' text' rows' q (used + l)
       some-keeps bt br =
           record {
             d = after;
@@ -325,29 +324,29 @@ module _ (rules : Rules) (bytes dir text₀ rows₀ : List ℕ) (first count use
                 (129 - q) q after (omega (arith, few .1)) (behind .alike)
                 ∙ ran-goes;
             lengthText = behind .lengthText ∙ g .lengthText;
-            lengthRows = behind .lengthRows ∙ g .lengthRows;
+            roomRows = behind .roomRows ∙ g .roomRows;
             belowText = bt;
             belowRows = br;
           }
 
-  none-room : (used + len ≤ length text) × (rowSize * (row + (p - 1)) ≤ length rows)
+  none-room : (used + len ≤ length text) × (row + (p - 1) ≤ rowRoom rows)
   none-room =
       let z = grows (source rules bytes dir cur) (earlier text rows first count) used (129 - p) p (g .d) (draftOf n) (g .goes) in (
         omega (arith, z .longer, g .place, room .bytes, g .lengthText),
-        omega (arith, z .more, g .counted, room .table, g .lengthRows),
+        omega (arith, z .more, g .counted, room .table, g .roomRows),
       )
 
   room-of : (q l : ℕ) → ((q ≡ p) × (l ≡ len)) ⊎ Some (source rules bytes dir cur) (earlier text rows first count) end p len q l
-      → (used + l ≤ length text) × (rowSize * (row + (q - 1)) ≤ length rows)
+      → (used + l ≤ length text) × (row + (q - 1) ≤ rowRoom rows)
   room-of q l (inl w) = rw (w .0, w .1) none-room
   room-of q l (inr w) = some-room q l w
 
   pub run-room : (q l : ℕ) → runOf (source rules bytes dir cur) (earlier text rows first count) end p len ≡ onAt q l
-      → (used + l ≤ length text) × (rowSize * (row + (q - 1)) ≤ length rows)
+      → (used + l ≤ length text) × (row + (q - 1) ≤ rowRoom rows)
   run-room q l h = room-of q l (ways (source rules bytes dir cur) (earlier text rows first count) end p len q l h)
 
-  module _ (q l : ℕ) (text' rows' cur' : List ℕ) (m : memory text' rows' cur' ≡ runPut true (earlier text rows first count) used row p len (onAt q l) (memory text rows cur))
-      (bt : Below 256 text') (br : Below (2 ^ 32) rows') where
+  module _ (q l : ℕ) (text' : List ℕ) (rows' : Table) (cur' : List ℕ) (m : memory text' rows' cur' ≡ runPut true (earlier text rows first count) used row p len (onAt q l) (memory text rows cur))
+      (bt : Below 256 text') (br : RowsBelow (2 ^ 32) rows') where
     none-keeps : q ≡ p → l ≡ len → Going rules bytes dir text₀ rows₀ first count used row (draftOf n) cur' text' rows' q (used + l)
     none-keeps a b =
         let x = m ∙ sym (puts-none (earlier text rows first count) used row p len (memory text rows cur) true q l (omega arith)) in
@@ -361,8 +360,8 @@ module _ (rules : Rules) (bytes dir text₀ rows₀ : List ℕ) (first count use
     keeps (inl w) = none-keeps (w .0) (w .1)
     keeps (inr w) = some-keeps q l w text' rows' cur' m bt br
 
-  pub run-keeps : (q l : ℕ) (text' rows' cur' : List ℕ) → runOf (source rules bytes dir cur) (earlier text rows first count) end p len ≡ onAt q l
+  pub run-keeps : (q l : ℕ) (text' : List ℕ) (rows' : Table) (cur' : List ℕ) → runOf (source rules bytes dir cur) (earlier text rows first count) end p len ≡ onAt q l
       → memory text' rows' cur' ≡ runPut true (earlier text rows first count) used row p len (onAt q l) (memory text rows cur)
-      → Below 256 text' → Below (2 ^ 32) rows'
+      → Below 256 text' → RowsBelow (2 ^ 32) rows'
       → Going rules bytes dir text₀ rows₀ first count used row (draftOf n) cur' text' rows' q (used + l)
   run-keeps q l text' rows' cur' h m bt br = keeps q l text' rows' cur' m bt br (ways (source rules bytes dir cur) (earlier text rows first count) end p len q l h)

@@ -12,7 +12,7 @@ use Rattle.base.specs.Memory.{written, part}
 use Rattle.base.specs.Every.{Below}
 use Rattle.base.proofs.Choice.{took, left, by-test, both-of, both-left, both-right}
 use Rattle.block.specs.Block.{spanOf, endOf, cursorOf}
-use Rattle.kept.specs.Tables.{rowSize, rowAt}
+use Rattle.tables.specs.Tables.{rowAt, Table, rowRoom, putRows}
 use Rattle.sources.specs.Source.{Source, Earlier, earlier, byteIn}
 use Rattle.repeats.specs.Sound.{Rows}
 use Rattle.repeats.proofs.Laws.{rows-more}
@@ -42,7 +42,7 @@ module _ (s : Source) (e : Earlier) (used end p q : ℕ) (k : Rows used e) (r : 
       omega (arith, b .high, d (2 * spanOf i 0 + 1))
 
   pub length-asks : used < 2 ^ 31
-      → ((e .first + (p - 1) < e .first + (q - 1)) × (rowSize * (e .first + (q - 1)) ≤ length (e .rows)))
+      → ((e .first + (p - 1) < e .first + (q - 1)) × (e .first + (q - 1) ≤ rowRoom (e .rows)))
       × ((rowAt (e .rows) (e .first + (p - 1)) .start ≤ rowAt (e .rows) (e .first + (q - 1) - 1) .start + rowAt (e .rows) (e .first + (q - 1) - 1) .length)
       × (rowAt (e .rows) (e .first + (q - 1) - 1) .start + rowAt (e .rows) (e .first + (q - 1) - 1) .length < 2 ^ 32))
   length-asks near =
@@ -53,7 +53,7 @@ module _ (s : Source) (e : Earlier) (used end p q : ℕ) (k : Rows used e) (r : 
       ((omega arith, omega (arith, k .table)), (rw i (omega arith), rw i (omega arith)))
 
 -- of the first rows of a name
-module _ (text rows : List ℕ) (first count n : ℕ) (h : n ≤ count) where
+module _ (text : List ℕ) (rows : Table) (first count n : ℕ) (h : n ≤ count) where
   pub fewer-spelt : RowsSpelt (earlier text rows first count) → RowsSpelt (earlier text rows first n)
   fewer-spelt s = record { each = λ j a b. s .each j a (omega arith); laid = λ j a b. s .laid j a (omega arith) }
 
@@ -95,7 +95,7 @@ module _ (e : Earlier) (used row p len : ℕ) (m : Memory) where
 
   pub puts-run : (k : Bool) (q w : ℕ) {now : Memory} → k ≡ true → p < q
       → now ≡ memory (written (m .text) (used + len) (part (m .text) (textStart (m .rows) (e .first + (p - 1))) (textStart (m .rows) (e .first + (p - 1)) + w)))
-      (written (m .rows) (rowSize * (row + (p - 1))) (movedRows (m .rows) (e .first + (p - 1)) (q - p) (used + len)))
+      (putRows (m .rows) (row + (p - 1)) (movedRows (m .rows) (e .first + (p - 1)) (q - p) (used + len)))
       (typesPast (m .cur) p (q - p))
       → now ≡ runPut k e used row p len (onAt q (len + w)) m
   unfolding runPut

@@ -1,5 +1,5 @@
 -- A run of MATCHes in one go: how far it may go, what it comes to, and what it puts down.
-use Prim.Native.Nat.{ℕ, _+_, _-_, _*_, _≤_}
+use Prim.Native.Nat.{ℕ, _+_, _-_, _≤_}
 use mathlib.Core.Path.{_≡_}
 use mathlib.Core.Bool.{Bool}
 use mathlib.Core.List.{List}
@@ -10,9 +10,9 @@ use Rattle.base.specs.Choice.{pick, both}
 use Rattle.base.specs.Lent.{Buffer}
 use Rattle.spans.specs.declared.Position.{Position}
 use Rattle.block.specs.declared.Setting.{Setting}
-use Rattle.tokens.specs.Types.{rulesOf}
+use Rattle.types.specs.Types.{rulesOf}
 use Rattle.sources.specs.Source.{Source, source, Earlier, earlier}
-use Rattle.kept.specs.Tables.{rowSize}
+use Rattle.tables.specs.Tables.{Table, inRows, rowRoom}
 use Rattle.names.specs.Keeps.{Memory}
 use Rattle.runs.specs.Runs.{runEnd, textLength}
 use Rattle.repeating.specs.Repeats.{RowsSpelt}
@@ -42,14 +42,14 @@ runOf s e end p len = runTo e p (runEnd s p (end - p)) len
 -- the same of the block and of the earlier name's rows that a call is lent
 abbrev pub runNow : Setting → RefT (List ℕ) → RefT (List ℕ) → RefT (List ℕ) → RefT (List ℕ) → RefT (List ℕ) → ℕ → ℕ → Position → Position → ℕ → Ran
 runNow set bytes dir cursors text rows first count end p len =
-    runOf (source (rulesOf set) (now bytes) (now dir) (now cursors)) (earlier (now text) (now rows) first count) (end .0) (p .0) len
+    runOf (source (rulesOf set) (now bytes) (now dir) (now cursors)) (earlier (now text) (inRows (now rows)) first count) (end .0) (p .0) len
 
 abbrev pub runLent : Setting → Buffer → Buffer → Buffer → Buffer → Buffer → ℕ → ℕ → Position → Position → ℕ → Ran
 runLent set bytes dir cursors text rows = runNow set (bytes .entry) (dir .entry) (cursors .entry) (text .entry) (rows .entry)
 
 -- room for the name as far as the run takes it
-abbrev pub RunRoom : Ran → ℕ → ℕ → List ℕ → List ℕ → Type 0
-RunRoom r used row text rows = (q l : ℕ) → r ≡ onAt q l → (used + l ≤ length text) × (rowSize * (row + (q - 1)) ≤ length rows)
+abbrev pub RunRoom : Ran → ℕ → ℕ → List ℕ → Table → Type 0
+RunRoom r used row text rows = (q l : ℕ) → r ≡ onAt q l → (used + l ≤ length text) × (row + (q - 1) ≤ rowRoom rows)
 
 -- what the run puts down, where the name is being kept
 unfoldable pub runPut : Bool → Earlier → ℕ → ℕ → ℕ → ℕ → Ran → Memory → Memory

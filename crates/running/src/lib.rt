@@ -8,6 +8,7 @@ ghost use Rattle.repeats.specs.Sound.{Rows};
 ghost use Rattle.names.specs.Keeps.{memoryLent, memoryLeft};
 ghost use Rattle.running.specs.Running.{Reaches, runNow, runLent, RunRoom, runPut};
 ghost use Rattle.base.specs.Lent.{lent};
+ghost use Rattle.tables.specs.Tables.{inRows, rowsLent};
 use block::Block;
 use block::Setting;
 use spans::Position;
@@ -36,13 +37,13 @@ pub fn run(
     len: u32,
 ) -> Ran
     requires { ⌜ Open (now bytes) (now dir) (now cursors) ⌝ }
-    requires { ⌜ Rows used (earlier (now text) (now rows) first count) ⌝ }
-    requires { ⌜ Reaches (end .0) (earlier (now text) (now rows) first count) ⌝ }
+    requires { ⌜ Rows used (earlier (now text) (inRows (now rows)) first count) ⌝ }
+    requires { ⌜ Reaches (end .0) (earlier (now text) (inRows (now rows)) first count) ⌝ }
     requires { ⌜ (1 ≤ p .0) × ((p .0 ≤ 128) × (len ≤ 254)) ⌝ }
     requires { ⌜ (used < 2 ^ 31) × ((first + count ≤ row) × (row < 2 ^ 31)) ⌝ }
-    requires { ⌜ (keeping ≡ true → RunRoom (runNow set bytes dir cursors text rows first count end p len) used row (now text) (now rows)) ⌝ }
+    requires { ⌜ (keeping ≡ true → RunRoom (runNow set bytes dir cursors text rows first count end p len) used row (now text) (inRows (now rows))) ⌝ }
     ensures { λ r. ⌜ r ≡ runLent set bytes dir cursors text rows first count end p len ⌝ }
-    ensures { λ r. ⌜ memoryLeft text rows cursors ≡ runPut keeping (earlier (lent text) (lent rows) first count) used row (p .0) len r (memoryLent text rows cursors) ⌝ }
+    ensures { λ r. ⌜ memoryLeft text rows cursors ≡ runPut keeping (earlier (lent text) (rowsLent rows) first count) used row (p .0) len r (memoryLent text rows cursors) ⌝ }
 {
     let q = runs::run_end(set, bytes, dir, cursors, p, end);
     if q.0 <= p.0 {

@@ -2,17 +2,16 @@
 use Prim.Native.Nat.{ℕ, zero, suc, _+_, _-_, _≤_, _<_}
 use mathlib.Core.Path.{_≡_, refl, sym}
 use mathlib.Core.Bool.{true, false}
-use mathlib.Core.List.{List}
 use native.Mathlib.Omega.{arith}
 use Rattle.base.proofs.Choice.{pick-true, pick-false, by-test, never}
 use Rattle.base.proofs.Numbers.{here-or-later}
 use Rattle.spans.specs.declared.Cursor.{Cursor}
 use Rattle.spans.specs.declared.NextByte.{NextByte}
 use Rattle.spans.specs.declared.NextByte.the-variants as byte
-use Rattle.tokens.specs.declared.TokenType.{TokenType}
-use Rattle.tokens.specs.declared.TokenType.the-variants as type
-use Rattle.tokens.specs.Types.{Numbers, typeOf}
-use Rattle.kept.specs.Tables.{rowAt}
+use Rattle.types.specs.declared.TokenType.{TokenType}
+use Rattle.types.specs.declared.TokenType.the-variants as type
+use Rattle.types.specs.Types.{Numbers, typeOf}
+use Rattle.tables.specs.Tables.{Table, rowAt}
 use Rattle.sources.specs.Source.{Source}
 use Rattle.names.specs.Names.{typeIn, typeAt}
 use Rattle.runs.specs.Runs.{isMatch, runEnd, textStart, textLength}
@@ -56,7 +55,7 @@ module _ (s : Source) (p f : ℕ) where
     run-more q = rw h (sym (pick-true _ _ q))
 
 -- how many bytes rows have that lie one behind the other
-module _ (rows : List ℕ) (i j : ℕ) where
+module _ (rows : Table) (i j : ℕ) where
   pub text-start : rowAt rows i .start ≡ textStart rows i
   unfolding textStart
   text-start = refl

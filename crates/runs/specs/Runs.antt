@@ -1,11 +1,10 @@
 -- A run of MATCHes: where it ends, and how many bytes the rows have that it stands for.
 use Prim.Native.Nat.{ℕ, zero, suc, _+_, _-_}
 use mathlib.Core.Bool.{Bool, true, false}
-use mathlib.Core.List.{List}
 use Rattle.base.specs.Choice.{pick}
-use Rattle.tokens.specs.declared.TokenType.{TokenType}
-use Rattle.tokens.specs.declared.TokenType.the-variants as type
-use Rattle.kept.specs.Tables.{rowAt}
+use Rattle.types.specs.declared.TokenType.{TokenType}
+use Rattle.types.specs.declared.TokenType.the-variants as type
+use Rattle.tables.specs.Tables.{Table, rowAt}
 use Rattle.sources.specs.Source.{Source}
 use Rattle.names.specs.Names.{typeAt}
 
@@ -26,8 +25,8 @@ runEnd s p zero = p
 runEnd s p (suc f) = pick (isMatch (typeAt s p)) (runEnd s (p + 1) f) p
 
 -- where the text of row i starts, and how many bytes rows i up to j have, which lie one behind the other
-unfoldable pub textStart : List ℕ → ℕ → ℕ
+unfoldable pub textStart : Table → ℕ → ℕ
 textStart rows i = rowAt rows i .start
 
-unfoldable pub textLength : List ℕ → ℕ → ℕ → ℕ
+unfoldable pub textLength : Table → ℕ → ℕ → ℕ
 textLength rows i j = rowAt rows (j - 1) .start + rowAt rows (j - 1) .length - rowAt rows i .start

@@ -1,19 +1,17 @@
 // A run of MATCHes found: how far it may go, where it ends by its types, and how many bytes its rows have.
 ghost use mathlib.Core.Path.{_≡_};
-ghost use Prim.Native.Nat.{_≤_, _<_, _+_, _-_, _*_, _^_};
+ghost use Prim.Native.Nat.{_≤_, _<_, _+_, _-_, _^_};
 ghost use lib.ListN.{length};
 ghost use Rattle.base.specs.Choice.{pick};
 ghost use Rattle.block.specs.Open.{Open};
-ghost use Rattle.kept.specs.Tables.{rowSize, rowAt};
+ghost use Rattle.tables.specs.Tables.{rowAt, inRows, rowRoom, rowsLent};
 ghost use Rattle.sources.specs.Source.{blockLent};
 ghost use Rattle.runs.specs.Runs.{isMatch, runEnd, textLength};
-ghost use Rattle.base.specs.Lent.{lent};
 use block::Setting;
 use block::stream;
-use kept::tables;
 use names::keeping;
 use spans::Position;
-use tokens::TokenType;
+use types::TokenType;
 
 // How far a run of MATCHes may go.
 pub fn last(known: bool, count: u32) -> Position
@@ -69,10 +67,10 @@ pub fn run_end(
 
 // The first row and the last tell it, since the texts lie one behind the other.
 pub fn run_length(rows: &[u32], from: usize, to: usize) -> u32
-    requires { ⌜ (from < to) × (rowSize * to ≤ length (now rows)) ⌝ }
-    requires { ⌜ rowAt (now rows) from .start ≤ rowAt (now rows) (to - 1) .start + rowAt (now rows) (to - 1) .length ⌝ }
-    requires { ⌜ rowAt (now rows) (to - 1) .start + rowAt (now rows) (to - 1) .length < 2 ^ 32 ⌝ }
-    ensures { λ r. ⌜ r ≡ textLength (lent rows) from to ⌝ }
+    requires { ⌜ (from < to) × (to ≤ rowRoom (inRows (now rows))) ⌝ }
+    requires { ⌜ rowAt (inRows (now rows)) from .start ≤ rowAt (inRows (now rows)) (to - 1) .start + rowAt (inRows (now rows)) (to - 1) .length ⌝ }
+    requires { ⌜ rowAt (inRows (now rows)) (to - 1) .start + rowAt (inRows (now rows)) (to - 1) .length < 2 ^ 32 ⌝ }
+    ensures { λ r. ⌜ r ≡ textLength (rowsLent rows) from to ⌝ }
 {
     let lead = tables::row_in(rows, from);
     let last = tables::row_in(rows, to - 1);

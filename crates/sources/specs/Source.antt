@@ -7,8 +7,9 @@ use Rattle.spans.specs.declared.NextText.{NextText}
 use Rattle.spans.specs.Spans.{byteAt, fourAt, textAt}
 use Rattle.block.specs.Block.{spanOf, endOf, cursorOf}
 use Rattle.block.specs.declared.Setting.{Setting}
-use Rattle.tokens.specs.Types.{Rules, rulesOf}
+use Rattle.types.specs.Types.{Rules, rulesOf}
 use Rattle.base.specs.Lent.{Buffer, lent}
+use Rattle.tables.specs.Tables.{Table}
 
 pub record Source : Type 0 where
   pub rules : Rules
@@ -32,11 +33,11 @@ textIn s p i = textAt (s .bytes) (cursorOf (s .cur) (spanOf p i)) (endOf (s .dir
 -- the earlier name: the kept text and row table, its first row and number of rows (0 where there is no earlier name)
 pub record Earlier : Type 0 where
   pub text : List ℕ
-  pub rows : List ℕ
+  pub rows : Table
   pub first : ℕ
   pub count : ℕ
 
-abbrev pub earlier : List ℕ → List ℕ → ℕ → ℕ → Earlier
+abbrev pub earlier : List ℕ → Table → ℕ → ℕ → Earlier
 earlier t r f n = record { text = t; rows = r; first = f; count = n }
 
 -- the block that a call is lent

@@ -8,13 +8,14 @@ use lib.ListN.{length, getD, take, length-append}
 use Rattle.base.specs.Memory.{part}
 use Rattle.base.proofs.Below.{take-written}
 use Rattle.base.proofs.Holding.{Holds, holds-written, holds-left, holds-right, holds-part, part-holds}
-use Rattle.kept.specs.declared.Entry.{Entry}
-use Rattle.kept.specs.Tables.{entrySize, rowSize, Kept, entryAt, rowAt, rowNumbers}
+use Rattle.tables.specs.declared.Entry.{Entry}
+use Rattle.tables.specs.Tables.{Table, entrySize, Kept, entryAt, rowAt}
 use Rattle.kept.specs.Inside.{Counted, Earlier}
-use Rattle.kept.proofs.Frame.{entry-holds, row-holds}
+use Rattle.kept.proofs.Frame.{entry-holds}
+use Rattle.tables.proofs.Rows.{RowsHold, below-put, within-put, hold-first, hold-rest}
 use Rattle.kept.proofs.Later.{Later, entry-later, row-later, part-later}
 use Rattle.names.specs.Names.{Draft}
-use Rattle.entries.specs.Entries.{kept}
+use Rattle.outcomes.specs.Keeping.{kept}
 use Rattle.earlier.specs.Back.{rowsOf}
 use Rattle.repeats.specs.Repeats.{rowHere}
 use Rattle.words.specs.Values.{Value, char, prints, spelt, rowFor, Name}
@@ -23,17 +24,14 @@ use Rattle.standing.proofs.Shown.{RowsTell, none, more}
 use Rattle.standing.proofs.Walks.{rowsFor}
 
 -- rows that stand in a table
-pub rows-at : (table : List ℕ) (vs : List Value) (first place j : ℕ) → Holds table (rowSize * first) (rowsFor vs place) → j < length vs
+pub rows-at : (table : Table) (vs : List Value) (first place j : ℕ) → RowsHold table first (rowsFor vs place) → j < length vs
     → rowAt table (first + j) ≡ rowFor (getD vs j (char 0)) (place + length (spelt (take j vs)))
 unfolding rowsFor spelt
 rows-at table [] first place j h l = absurd (omega (arith, l))
 rows-at table (v ∷ vs) first place zero h l =
-    ap (rowAt table) (add-zero first) ∙ row-holds table first (rowFor v place) (holds-left table (rowSize * first) (rowNumbers (rowFor v place)) _ h) ∙ ap (rowFor v) (sym (add-zero place))
+    ap (rowAt table) (add-zero first) ∙ hold-first table first (rowFor v place) (rowsFor vs (place + length (prints v))) h ∙ ap (rowFor v) (sym (add-zero place))
 rows-at table (v ∷ vs) first place (suc j) h l =
-    let row : List ℕ = rowNumbers (rowFor v place) in
-    let next : rowSize * first + length row ≡ rowSize * (first + 1) = omega arith in
-    let rest : Holds table (rowSize * (first + 1)) (rowsFor vs (place + length (prints v))) =
-    subst (λ (n : ℕ). Holds table n (rowsFor vs (place + length (prints v)))) next (holds-right table (rowSize * first) row _ h) in
+    let rest = hold-rest table first (rowFor v place) (rowsFor vs (place + length (prints v))) h in
     let here : first + suc j ≡ first + 1 + j = omega arith in
     let there : place + length (prints v) + length (spelt (take j vs)) ≡ place + length (prints v ++ spelt (take j vs)) =
     omega (arith, length-append (prints v) (spelt (take j vs))) in
@@ -52,7 +50,7 @@ module _ (m : Kept) (x : Draft) (first rows d : ℕ) (c : Counted m) where
     rows = omega arith;
     in-text = take-written (m .text) (m .state .text) _ (m .state .text) (omega arith) (c .used);
     in-names = take-written (m .names) (entrySize * m .state .names) _ (entrySize * m .state .names) (omega arith) (c .entries);
-    in-rows = take-written (m .rows) (rowSize * m .state .rows) _ (rowSize * m .state .rows) (omega arith) (c .rowsUsed);
+    in-rows = below-put (m .rows) (m .state .rows) (x .rows) (m .state .rows) (omega arith) (c .rowsUsed);
   }
 
   entered : entryAt (now .names) (m .state .names) ≡ record { start = m .state .text; length = length (x .text); first = first; rows = rows; distance = d }
@@ -80,7 +78,7 @@ module _ (m : Kept) (x : Draft) (first rows d : ℕ) (c : Counted m) where
         home = m .state .text;
         inside = omega (arith, long);
         there = text-now vs t;
-        rows = λ j l. rw (entered, f, rows-at _ vs (m .state .rows) (m .state .text) j (subst (λ (y : List ℕ). Holds (now .rows) (rowSize * m .state .rows) y) r (holds-written _ _ _ (c .rowsUsed))) l);
+        rows = λ j l. rw (entered, f, rows-at _ vs (m .state .rows) (m .state .text) j (subst (RowsHold (now .rows) (m .state .rows)) r (within-put (m .rows) (m .state .rows) (x .rows) (c .rowsUsed))) l);
       }
 
   -- with an earlier name's

@@ -21,23 +21,24 @@ use Rattle.block.specs.Block.{spanOf, endOf, cursorOf, atEnd, allAtEnd}
 use Rattle.block.specs.Open.{Open}
 use Rattle.block.specs.Streams.{typeStream, dupStream, diffStream}
 use Rattle.block.proofs.Laws.{span-below, cursor-set-other}
-use Rattle.kept.specs.Tables.{Kept, entryAt}
+use Rattle.tables.specs.Tables.{Kept, entryAt}
 use Rattle.kept.specs.Inside.{Counted}
 use Rattle.kept.specs.Inside as inside
 use Rattle.kept.proofs.Laws as judged
-use Rattle.tokens.specs.Types.{Rules}
+use Rattle.types.specs.Types.{Rules}
 use Rattle.sources.specs.Source.{Source, source, Earlier, byteIn, fourIn}
 use Rattle.moving.specs.Moves.{past}
 use Rattle.moving.proofs.Moves.{length-past}
 use Rattle.names.specs.Names.{Draft, draft, Named}
 use Rattle.entries.specs.declared.Answer.the-variants as answer
-use Rattle.entries.specs.Outcomes.{Outcome, outcome, plain, atName}
-use Rattle.entries.specs.Entries.{roomFor, kept, keepOf}
+use Rattle.outcomes.specs.Outcomes.{Outcome, outcome, plain, atName}
+use Rattle.outcomes.specs.Keeping.{roomFor, kept, keepOf}
 use Rattle.earlier.specs.Back.{rowsOf, none, entryBack}
 use Rattle.earlier.specs.Fits.{AllFit}
-use Rattle.heads.specs.declared.Head.{Head}
-use Rattle.heads.specs.declared.Head.the-variants as head
-use Rattle.heads.specs.Heads.{dupFits, diffFits, dupHead, diffHead, typedHead, headOf, headPast}
+use Rattle.distances.specs.declared.Head.{Head}
+use Rattle.distances.specs.declared.Head.the-variants as head
+use Rattle.distances.specs.Distances.{dupFits, diffFits, dupHead, diffHead}
+use Rattle.heads.specs.Heads.{typedHead, headOf, headPast}
 use Rattle.heads.specs.Headed.{Headed}
 use Rattle.heads.proofs.Heads.{head-same, head-open}
 use Rattle.copying.specs.Copies.{dupOf}

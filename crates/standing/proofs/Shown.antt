@@ -8,8 +8,7 @@ use Rattle.base.specs.Choice.{pick}
 use Rattle.base.specs.Memory.{part}
 use Rattle.base.proofs.Holding.{Holds, holds-part, holds-first}
 use Rattle.digits.proofs.Laws.{length-padded}
-use Rattle.kept.specs.declared.Row.{Row}
-use Rattle.kept.specs.Tables.{rowNumbers}
+use Rattle.tables.specs.declared.Row.{Row}
 use Rattle.tokens.specs.declared.Token.{Token}
 use Rattle.tokens.specs.declared.Token.the-variants.{String, Char, Digits, Digits0}
 use Rattle.tokens.specs.Tokens.{bytesOf, kindOf, numberOf, widthOf, lengthOf, rowOf}
@@ -33,12 +32,12 @@ module _ (bytes text : List ℕ) where
   shown-prints (Digits0 p) = refl
 
   -- and has the same row
-  pub shown-row : (t : Token) (place : ℕ) → length (prints (shown bytes text t)) ≡ lengthOf t → rowNumbers (rowFor (shown bytes text t) place) ≡ rowOf t place
+  pub shown-row : (t : Token) (place : ℕ) → length (prints (shown bytes text t)) ≡ lengthOf t → rowFor (shown bytes text t) place ≡ rowOf t place
   unfolding shown prints rowFor rowOf kindOf numberOf widthOf lengthOf
-  shown-row (String t) place e = ap (λ (n : ℕ). rowNumbers (row 1 0 0 place n)) e
+  shown-row (String t) place e = ap (row 1 0 0 place) e
   shown-row (Char b) place e = refl
   shown-row (Digits n) place e = refl
-  shown-row (Digits0 p) place e = ap (λ (n : ℕ). rowNumbers (row 4 (p .number) (p .width) place n)) e
+  shown-row (Digits0 p) place e = ap (row 4 (p .number) (p .width) place) e
 
 -- a row is a value's, and the value's printed bytes stand where the row says
 pub record Shows (text : List ℕ) (r : Row) (v : Value) : Type 0 where

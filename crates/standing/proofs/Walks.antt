@@ -12,10 +12,10 @@ use Rattle.classes.specs.Classes.{allAllowed}
 use Rattle.spans.specs.declared.Cursor.{Cursor}
 use Rattle.block.specs.Block.{spanOf}
 use Rattle.block.specs.Open.{Open}
-use Rattle.kept.specs.Tables.{rowNumbers}
+use Rattle.tables.specs.declared.Row.{Row}
 use Rattle.tokens.specs.declared.Token.{Token}
 use Rattle.tokens.specs.Tokens.{bytesOf, lengthOf}
-use Rattle.tokens.specs.Types.{Rules}
+use Rattle.types.specs.Types.{Rules}
 use Rattle.sources.specs.Source.{Source, source, Earlier}
 use Rattle.values.specs.declared.Step.{Step}
 use Rattle.values.specs.declared.Step.the-variants as step
@@ -33,9 +33,9 @@ use Rattle.standing.proofs.Steps as steps
 use Rattle.standing.proofs.Steps.{StepSaid, step-said}
 
 -- the rows of tokens whose printed bytes stand one behind the other
-unfoldable pub rowsFor : List Value → ℕ → List ℕ
+unfoldable pub rowsFor : List Value → ℕ → List Row
 rowsFor [] at = []
-rowsFor (v ∷ vs) at = rowNumbers (rowFor v at) ++ rowsFor vs (at + length (prints v))
+rowsFor (v ∷ vs) at = rowFor v at ∷ rowsFor vs (at + length (prints v))
 
 -- a draft with these tokens more
 pub record Grew (used : ℕ) (d x : Draft) (vs : List Value) : Type 0 where
@@ -54,7 +54,7 @@ rows-behind e p vs (none q a) = none (p + 1) (omega (arith, a))
 rows-behind e p vs (more q v ws a x r) = r
 
 -- a token more, and then the rest
-module _ (used : ℕ) (d g : Draft) (v : Value) (text : g .text ≡ d .text ++ prints v) (rows : g .rows ≡ d .rows ++ rowNumbers (rowFor v (used + length (d .text))))
+module _ (used : ℕ) (d g : Draft) (v : Value) (text : g .text ≡ d .text ++ prints v) (rows : g .rows ≡ d .rows ++ (rowFor v (used + length (d .text)) ∷ []))
     (count : g .count ≡ d .count + 1) where
   grew-then : (x : Draft) (vs : List Value) → Grew used g x vs → Grew used d x (v ∷ vs)
   unfolding spelt rowsFor
@@ -65,7 +65,7 @@ module _ (used : ℕ) (d g : Draft) (v : Value) (text : g .text ≡ d .text ++ p
         text = h .text ∙ ap (λ (l : List ℕ). l ++ spelt vs) text ∙ append-assoc (d .text) (prints v) (spelt vs);
         rows =
             h .rows ∙ ap (λ (n : ℕ). g .rows ++ rowsFor vs n) place
-            ∙ ap (λ (l : List ℕ). l ++ rowsFor vs (used + length (d .text) + length (prints v))) rows ∙ append-assoc (d .rows) (rowNumbers (rowFor v (used + length (d .text)))) _;
+            ∙ ap (λ (l : List Row). l ++ rowsFor vs (used + length (d .text) + length (prints v))) rows ∙ append-assoc (d .rows) (rowFor v (used + length (d .text)) ∷ []) _;
         count = h .count ∙ omega (arith, count);
       }
 
@@ -92,12 +92,12 @@ module _ (rules : Rules) (bytes dir cur : List ℕ) (e : Earlier) (used : ℕ) w
     token-text t c v is = ap (λ (l : List ℕ). d .text ++ l) (token-printed t c v is)
 
     token-rows : (t : Token) (c : Cursor) (v : Value) → shown bytes (e .text) t ≡ v → length (prints v) ≡ lengthOf t
-        → grown s e used p t (c .0) d .rows ≡ d .rows ++ rowNumbers (rowFor v (used + length (d .text)))
+        → grown s e used p t (c .0) d .rows ≡ d .rows ++ (rowFor v (used + length (d .text)) ∷ [])
     unfolding grown
     token-rows t c v is long =
-        ap (λ (l : List ℕ). d .rows ++ l)
+        ap (λ (r : Row). d .rows ++ (r ∷ []))
         (sym (shown-row bytes (e .text) t (used + length (d .text)) (ap (λ (x : Value). length (prints x)) is ∙ long))
-        ∙ ap (λ (x : Value). rowNumbers (rowFor x (used + length (d .text)))) is)
+        ∙ ap (λ (x : Value). rowFor x (used + length (d .text))) is)
 
     token-count : (t : Token) (c : Cursor) → grown s e used p t (c .0) d .count ≡ d .count + 1
     unfolding grown

@@ -5,12 +5,13 @@ use mathlib.Core.List.{List}
 use lib.ListN.{length, getD, take}
 use Rattle.base.specs.Memory.{part}
 use Rattle.block.specs.Block.{endOf, cursorOf}
-use Rattle.kept.specs.Tables.{Kept, entryAt, rowAt}
+use Rattle.tables.specs.Tables.{Kept, entryAt, rowAt}
 use Rattle.words.specs.Fronts.{Spans}
 use Rattle.words.specs.Values.{char, spelt, rowFor, Name, nobody}
 
 -- name i: its text is its tokens printed end to end, its distance the name's, and its rows are its tokens, each whole (kind, number, width,
--- and where its printed bytes stand and how many there are), one behind the other where the text of the name that added them stands
+-- and where its printed bytes stand and how many there are), one behind the other where the used text has the same bytes: the name's own text,
+-- or that of the name it is a copy of
 pub record Stands (m : Kept) (i : ℕ) (n : Name) : Type 0 where
   pub text : part (m .text) (entryAt (m .names) i .start) (entryAt (m .names) i .start + entryAt (m .names) i .length) ≡ spelt (n .tokens)
   pub long : entryAt (m .names) i .length ≡ length (spelt (n .tokens))

@@ -5,10 +5,10 @@ use mathlib.Core.Bool.{false}
 use Rattle.base.proofs.Choice.{pick-false}
 use Rattle.spans.specs.declared.Cursor.{Cursor}
 use Rattle.spans.specs.declared.NextByte.the-variants as byte
-use Rattle.tokens.specs.declared.TokenType.{TokenType}
-use Rattle.tokens.specs.declared.TokenType.the-variants as type
-use Rattle.tokens.specs.Types.{typeOf}
-use Rattle.kept.specs.Tables.{rowAt}
+use Rattle.types.specs.declared.TokenType.{TokenType}
+use Rattle.types.specs.declared.TokenType.the-variants as type
+use Rattle.types.specs.Types.{typeOf}
+use Rattle.tables.specs.Tables.{rowAt}
 use Rattle.values.specs.declared.Step.the-variants.{Got}
 use Rattle.sources.specs.Source.{Source, Earlier, byteIn}
 use Rattle.repeats.specs.Repeats.{tokenOf}

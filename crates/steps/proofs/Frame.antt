@@ -1,5 +1,5 @@
 -- Which memory a step depends on: the ten cursors of its position, the earlier name's rows, and the kept text below where their texts end.
-use Prim.Native.Nat.{ℕ, _+_, _-_, _*_, _≤_}
+use Prim.Native.Nat.{ℕ, _+_, _-_, _≤_}
 use mathlib.Core.Path.{_≡_, refl, ap, _∙_}
 use mathlib.Core.Bool.{true}
 use mathlib.Core.List.{List}
@@ -13,12 +13,12 @@ use Rattle.spans.specs.declared.Cursor.{Cursor}
 use Rattle.spans.specs.declared.NextByte.{NextByte}
 use Rattle.spans.specs.declared.NextByte.the-variants as byte
 use Rattle.block.specs.Block.{spanOf, cursorOf}
-use Rattle.tokens.specs.declared.TokenType.{TokenType}
-use Rattle.tokens.specs.declared.TokenType.the-variants as type
+use Rattle.types.specs.declared.TokenType.{TokenType}
+use Rattle.types.specs.declared.TokenType.the-variants as type
 use Rattle.tokens.specs.declared.Token.{Token}
-use Rattle.tokens.specs.Types.{Rules, typeOf}
-use Rattle.kept.specs.Tables.{rowSize, rowAt}
-use Rattle.kept.proofs.Frame.{Alike, row-alike}
+use Rattle.types.specs.Types.{Rules, typeOf}
+use Rattle.tables.specs.Tables.{Table, rowRoom, rowAt}
+use Rattle.tables.proofs.Rows.{SameRows}
 use Rattle.values.specs.declared.Step.the-variants.{Got, Refused}
 use Rattle.sources.specs.Source.{Source, source, Earlier, earlier, byteIn, fourIn, textIn}
 use Rattle.values.specs.Values.{stringStep, charStep, digitsStep}
@@ -66,10 +66,10 @@ module _ (rules : Rules) (bytes dir cur other : List ℕ) (p : ℕ) (same : (i :
 
 -- The earlier name
 
-module _ (text others rows table : List ℕ) (first count used p : ℕ) (known : Rows used (earlier text rows first count)) (low : 1 ≤ p)
-    (texts : take used text ≡ take used others) (numbers : Alike rows table (rowSize * (first + count))) where
+module _ (text others : List ℕ) (rows table : Table) (first count used p : ℕ) (known : Rows used (earlier text rows first count)) (low : 1 ≤ p)
+    (texts : take used text ≡ take used others) (numbers : SameRows rows table (first + count)) where
   here-same : leb p count ≡ true → rowAt rows (first + (p - 1)) ≡ rowAt table (first + (p - 1))
-  here-same h = let l : p ≤ count = leb-true _ _ h in row-alike rows table (first + count) numbers (first + (p - 1)) (omega arith)
+  here-same h = let l : p ≤ count = leb-true _ _ h in numbers (first + (p - 1)) (omega arith)
 
   kind-same : (kind : ℕ) → hasKind (earlier text rows first count) p kind ≡ hasKind (earlier others table first count) p kind
   unfolding hasKind hasRow rowHere
@@ -119,19 +119,19 @@ module _ (text others rows table : List ℕ) (first count used p : ℕ) (known :
   step-earlier s = typed-earlier s (byteIn s p 0)
 
   -- the rows are as sound in the other memory
-  pub rows-same : used ≤ length others → rowSize * (first + count) ≤ length table → Rows used (earlier others table first count)
+  pub rows-same : used ≤ length others → first + count ≤ rowRoom table → Rows used (earlier others table first count)
   rows-same h l =
       record {
         table = l;
         most = known .most;
         room = h;
-        each = λ j a b. rw (row-alike rows table (first + count) numbers j b) at (known .each j a b);
+        each = λ j a b. rw (numbers j b) at (known .each j a b);
       }
 
 -- both at once
-pub step-frame : (rules : Rules) (bytes dir cur other text others rows table : List ℕ) (first count used p : ℕ) → Rows used (earlier text rows first count) → 1 ≤ p
+pub step-frame : (rules : Rules) (bytes dir cur other text others : List ℕ) (rows table : Table) (first count used p : ℕ) → Rows used (earlier text rows first count) → 1 ≤ p
     → ((i : ℕ) → i ≤ 9 → cursorOf cur (spanOf p i) ≡ cursorOf other (spanOf p i))
-    → take used text ≡ take used others → Alike rows table (rowSize * (first + count))
+    → take used text ≡ take used others → SameRows rows table (first + count)
     → stepAt (source rules bytes dir cur) (earlier text rows first count) p ≡ stepAt (source rules bytes dir other) (earlier others table first count) p
 step-frame rules bytes dir cur other text others rows table first count used p known low same texts numbers =
     step-cursors rules bytes dir cur other p same (earlier text rows first count) ∙ step-earlier text others rows table first count used p known low texts numbers (source rules bytes dir other)

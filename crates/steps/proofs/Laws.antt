@@ -24,14 +24,14 @@ use Rattle.block.specs.Block.{spanOf, endOf, cursorOf}
 use Rattle.block.specs.Open.{Open}
 use Rattle.block.proofs.Laws.{span-below}
 use Rattle.block.specs.Streams.{stringStream, charStream, digits0Stream, dzlenStream, digitsStream, ddeltaStream, ddelta0Stream}
-use Rattle.tokens.specs.declared.TokenType.{TokenType}
-use Rattle.tokens.specs.declared.TokenType.the-variants as type
+use Rattle.types.specs.declared.TokenType.{TokenType}
+use Rattle.types.specs.declared.TokenType.the-variants as type
 use Rattle.tokens.specs.declared.Token.{Token}
 use Rattle.tokens.specs.declared.Token.the-variants.{String}
-use Rattle.tokens.specs.Types.{typeOf}
+use Rattle.types.specs.Types.{typeOf}
 use Rattle.tokens.specs.Inside.{Inside, KeptBelow}
-use Rattle.kept.specs.declared.Row.{Row}
-use Rattle.kept.specs.Tables.{rowAt}
+use Rattle.tables.specs.declared.Row.{Row}
+use Rattle.tables.proofs.Rows.{RowsBelow}
 use Rattle.kept.specs.Inside.{RowInside}
 use Rattle.values.specs.declared.Step.{Step}
 use Rattle.values.specs.declared.Step.the-variants.{Got, End, Refused}
@@ -53,7 +53,7 @@ pub record Known (s : Source) (e : Earlier) (used p : ℕ) : Type 0 where
   pub last : p ≤ 128
   pub bytes : Below 256 (s .bytes)
   pub texts : Below 256 (e .text)
-  pub numbers : Below (2 ^ 32) (e .rows)
+  pub numbers : RowsBelow (2 ^ 32) (e .rows)
 
 -- what is to be shown of a step at a type
 abbrev Fine : Source → Earlier → ℕ → TokenType → Step → Type 0
@@ -110,7 +110,7 @@ module _ (s : Source) (e : Earlier) (used p : ℕ) (k : Known s e used p) where
       k .rows .each (e .first + (p - 1)) (omega arith) (omega arith)
 
   number-below : rowHere e p .number < 2 ^ 32
-  unfolding rowHere rowAt
+  unfolding rowHere
   number-below = k .numbers _
 
   delta-fine : Fine s e used type.Delta (deltaAt s e p)

@@ -5,8 +5,8 @@ use mathlib.Core.Bool.{true, false}
 use Rattle.base.proofs.Choice.{took, left}
 use Rattle.spans.specs.declared.Cursor.{Cursor}
 use Rattle.spans.specs.declared.NextByte.the-variants as byte
-use Rattle.tokens.specs.declared.TokenType.{TokenType}
-use Rattle.tokens.specs.Types.{typeOf}
+use Rattle.types.specs.declared.TokenType.{TokenType}
+use Rattle.types.specs.Types.{typeOf}
 use Rattle.values.specs.declared.Step.{Step}
 use Rattle.values.specs.declared.Step.the-variants.{Refused}
 use Rattle.sources.specs.Source.{Source, Earlier}

@@ -4,16 +4,17 @@ ghost use mathlib.Core.Path.{_≡_};
 ghost use Prim.Native.Nat.{_≤_, _<_, _+_, _^_};
 ghost use Rattle.block.specs.Open.{Open};
 ghost use Rattle.sources.specs.Source.{source, earlier, blockLent};
-ghost use Rattle.tokens.specs.Types.{Rules};
+ghost use Rattle.types.specs.Types.{Rules};
 ghost use Rattle.steps.specs.Steps.{valueStep, typedStep};
 ghost use Rattle.repeats.specs.Sound.{Rows, reach};
 ghost use Rattle.base.specs.Lent.{lent};
+ghost use Rattle.tables.specs.Tables.{inRows, rowsLent};
 use block::Setting;
 use block::stream;
 use spans::Cursor;
 use spans::NextByte;
 use spans::Position;
-use tokens::TokenType;
+use types::TokenType;
 use values::Step;
 
 // The token of a type that has been read, c being the cursor past it.
@@ -30,9 +31,9 @@ pub fn value_step(
     t: TokenType,
 ) -> Step
     requires { ⌜ Open (now bytes) (now dir) (now cursors) ⌝ }
-    requires { ⌜ Rows (reach (now text)) (earlier (now text) (now rows) first count) ⌝ }
+    requires { ⌜ Rows (reach (now text)) (earlier (now text) (inRows (now rows)) first count) ⌝ }
     requires { ⌜ (first + count < 2 ^ 32) × ((1 ≤ p .0) × (p .0 ≤ 128)) ⌝ }
-    ensures { λ r. ⌜ ((rules : Rules) → r ≡ valueStep (source rules (lent bytes) (lent dir) (lent cursors)) (earlier (lent text) (lent rows) first count) (p .0) c t) ⌝ }
+    ensures { λ r. ⌜ ((rules : Rules) → r ≡ valueStep (source rules (lent bytes) (lent dir) (lent cursors)) (earlier (lent text) (rowsLent rows) first count) (p .0) c t) ⌝ }
 {
     match t {
         TokenType::String => values::string_step(sources::text_in(
@@ -79,14 +80,14 @@ pub fn typed_step(
     found: NextByte,
 ) -> Step
     requires { ⌜ Open (now bytes) (now dir) (now cursors) ⌝ }
-    requires { ⌜ Rows (reach (now text)) (earlier (now text) (now rows) first count) ⌝ }
+    requires { ⌜ Rows (reach (now text)) (earlier (now text) (inRows (now rows)) first count) ⌝ }
     requires { ⌜ (first + count < 2 ^ 32) × ((1 ≤ p .0) × (p .0 ≤ 128)) ⌝ }
-    ensures { λ r. ⌜ r ≡ typedStep (blockLent set bytes dir cursors) (earlier (lent text) (lent rows) first count) (p .0) found ⌝ }
+    ensures { λ r. ⌜ r ≡ typedStep (blockLent set bytes dir cursors) (earlier (lent text) (rowsLent rows) first count) (p .0) found ⌝ }
 {
     match found {
         NextByte::Value(b, c) => {
             let kind = set.kind;
-            let t = tokens::type_of(kind, b);
+            let t = types::type_of(kind, b);
             if bars::barred(p, t) {
                 Step::Refused(7)
             } else {

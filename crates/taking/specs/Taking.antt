@@ -1,5 +1,5 @@
 -- One token taken, judged or kept: what it asks for, and what a turn answers at a step.
-use Prim.Native.Nat.{ℕ, _+_, _-_, _*_, _^_, _≤_, _<_}
+use Prim.Native.Nat.{ℕ, _+_, _-_, _^_, _≤_, _<_}
 use mathlib.Core.Bool.{Bool}
 use mathlib.Core.List.{List}
 use mathlib.Core.Path.{_≡_}
@@ -8,8 +8,8 @@ use Rattle.base.specs.Choice.{pick, either}
 use Rattle.spans.specs.declared.Cursor.{Cursor}
 use Rattle.block.specs.Block.{spanOf, cursorOf}
 use Rattle.block.specs.Streams.{typeStream}
-use Rattle.kept.specs.Tables.{rowSize}
-use Rattle.tokens.specs.declared.TokenType.{TokenType}
+use Rattle.tables.specs.Tables.{Table, rowRoom}
+use Rattle.types.specs.declared.TokenType.{TokenType}
 use Rattle.tokens.specs.declared.Token.{Token}
 use Rattle.tokens.specs.Tokens.{bytesOf, lengthOf}
 use Rattle.tokens.specs.Inside.{KeptBelow}
@@ -41,16 +41,16 @@ turnOf keeping bytes text len step.End = End
 turnOf keeping bytes text len (step.Refused r) = Refused r
 
 -- a token that can be kept: there is room for it, and a cursor has 32 bits
-pub record Keepable (t : Token) (ty : TokenType) (p at row : ℕ) (cur text rows : List ℕ) : Type 0 where
+pub record Keepable (t : Token) (ty : TokenType) (p at row : ℕ) (cur text : List ℕ) (rows : Table) : Type 0 where
   pub below : KeptBelow at t
   pub bytes : at + lengthOf t ≤ length text
-  pub table : rowSize * row + rowSize ≤ length rows
+  pub table : row < rowRoom rows
   pub spans : length cur ≡ 1290
   pub typed : cursorOf cur (spanOf p typeStream) + 1 < 2 ^ 32
   pub movable : Movable ty p cur
 
 -- where a turn stands: behind the name's text and rows so far
-abbrev pub KeepableAt : Place → Token → TokenType → List ℕ → List ℕ → List ℕ → Type 0
+abbrev pub KeepableAt : Place → Token → TokenType → List ℕ → List ℕ → Table → Type 0
 KeepableAt at t ty cur text rows = Keepable t ty (at .p .0) (at .used + at .len) (at .row + (at .p .0 - 1)) cur text rows
 
 -- what a token puts down there, where the name is being kept

@@ -1,13 +1,14 @@
 // One token of a name taken where a turn stands: judged over what is lent and not written, or kept.
 ghost use mathlib.Core.Path.{_≡_};
 ghost use mathlib.Core.Bool.{true};
-ghost use Rattle.tokens.specs.Types.{numbersOf};
+ghost use Rattle.types.specs.Types.{numbersOf};
 ghost use Rattle.tokens.specs.Inside.{Inside};
 ghost use Rattle.values.specs.declared.Step.the-variants.{Got};
 ghost use Rattle.names.specs.Names.{typeIn};
 ghost use Rattle.names.specs.Keeps.{memoryLent, memoryLeft};
 ghost use Rattle.taking.specs.Taking.{Placed, turnOf, KeepableAt, takePut};
 ghost use Rattle.base.specs.Lent.{lent};
+ghost use Rattle.tables.specs.Tables.{inRows};
 use block::Setting;
 use names::judging;
 use names::keeping;
@@ -46,7 +47,7 @@ pub fn take(
 ) -> Turn
     requires { ⌜ Inside (now bytes) (now text) t ⌝ }
     requires { ⌜ Placed at ⌝ }
-    requires { ⌜ (keeping ≡ true → KeepableAt at t (typeIn (numbersOf (set .kind)) found) (now cursors) (now text) (now rows)) ⌝ }
+    requires { ⌜ (keeping ≡ true → KeepableAt at t (typeIn (numbersOf (set .kind)) found) (now cursors) (now text) (inRows (now rows))) ⌝ }
     ensures { λ r. ⌜ r ≡ turnOf keeping (lent bytes) (lent text) (at .len) (Got t c) ⌝ }
     ensures { λ _. ⌜ memoryLeft text rows cursors ≡ takePut keeping (lent bytes) t (typeIn (numbersOf (set .kind)) found) c at (memoryLent text rows cursors) ⌝ }
 {

@@ -5,7 +5,7 @@ use lib.ListN.{length}
 use Rattle.base.specs.Choice.{pick}
 use Rattle.base.specs.Memory.{part}
 use Rattle.digits.specs.Digits.{printed, padded}
-use Rattle.kept.specs.Tables.{rowNumbers}
+use Rattle.tables.specs.declared.Row.{Row}
 use Rattle.tokens.specs.declared.Token.{Token}
 use Rattle.tokens.specs.declared.Token.the-variants.{String, Char, Digits, Digits0}
 
@@ -44,6 +44,6 @@ lengthOf (Char b) = 1
 lengthOf (Digits n) = length (printed n)
 lengthOf (Digits0 p) = p .width
 
--- the numbers of its row
-unfoldable pub rowOf : Token → ℕ → List ℕ
-rowOf t at = rowNumbers (record { kind = kindOf t; number = numberOf t; width = widthOf t; start = at; length = lengthOf t })
+-- its row, the printed bytes standing at a place
+unfoldable pub rowOf : Token → ℕ → Row
+rowOf t at = record { kind = kindOf t; number = numberOf t; width = widthOf t; start = at; length = lengthOf t }

@@ -1,33 +1,17 @@
-// The token: its type as the stream says it, and, once resolved, one of four things, two of them carrying a number;
-// what it prints and the row that it keeps.
+// The resolved token: one of four things, two of them carrying a number; what it prints and the row that it keeps.
 ghost use mathlib.Core.Path.{_≡_};
 ghost use mathlib.Core.Bool.{true};
-ghost use Prim.Native.Nat.{_≤_, _+_, _*_, _-_};
+ghost use Prim.Native.Nat.{_≤_, _<_, _+_, _-_};
+ghost use mathlib.Core.List.{[], _∷_};
 ghost use lib.ListN.{length};
 ghost use Rattle.base.specs.Choice.{pick};
 ghost use Rattle.base.specs.Memory.{written, part};
 ghost use Rattle.classes.specs.Classes.{allAllowed};
-ghost use Rattle.kept.specs.Tables.{rowSize};
-ghost use Rattle.tokens.specs.Types.{draftNumbers, numbersOf, typeOf, typeNumber};
+ghost use Rattle.tables.specs.Tables.{inRows, rowRoom, putRows, rowsLent, rowsLeft};
 ghost use Rattle.tokens.specs.Tokens.{bytesOf, kindOf, numberOf, widthOf, lengthOf, rowOf};
 ghost use Rattle.tokens.specs.Inside.{Inside, KeptBelow};
 ghost use Rattle.base.specs.Lent.{lent, left};
-use block::Kind;
-use kept::Row;
-use kept::tables;
-
-// What a type byte says. Document 01's table, and `Other` for a byte that is not in it.
-pub enum TokenType {
-    String,
-    Char,
-    Digits,
-    Digits0,
-    Delta,
-    Delta0,
-    Match,
-    End,
-    Other,
-}
+use tables::Row;
 
 // A number printed with zeros in front up to its width.
 pub struct Padded {
@@ -47,72 +31,6 @@ pub enum Token {
     Char(u8),
     Digits(u32),
     Digits0(Padded),
-}
-
-// The types at position 0, which are no tokens.
-pub fn dup_number(kind: Kind) -> u8
-    ensures { λ r. ⌜ r ≡ numbersOf kind .dup ⌝ }
-{
-    match kind {
-        Kind::Draft => 5,
-    }
-}
-
-pub fn diff_number(kind: Kind) -> u8
-    ensures { λ r. ⌜ r ≡ numbersOf kind .diff ⌝ }
-{
-    match kind {
-        Kind::Draft => 6,
-    }
-}
-
-fn draft_type(b: u8) -> TokenType
-    ensures { λ r. ⌜ r ≡ typeOf draftNumbers b ⌝ }
-{
-    match b {
-        1 => TokenType::String,
-        2 => TokenType::Char,
-        4 => TokenType::Digits0,
-        7 => TokenType::Digits,
-        11 => TokenType::Delta,
-        12 => TokenType::Delta0,
-        13 => TokenType::Match,
-        14 => TokenType::End,
-        _ => TokenType::Other,
-    }
-}
-
-pub fn type_of(kind: Kind, b: u8) -> TokenType
-    ensures { λ r. ⌜ r ≡ typeOf (numbersOf kind) b ⌝ }
-{
-    match kind {
-        Kind::Draft => draft_type(b),
-    }
-}
-
-// The byte that says a type.
-fn draft_number(t: TokenType) -> u8
-    ensures { λ r. ⌜ r ≡ typeNumber draftNumbers t ⌝ }
-{
-    match t {
-        TokenType::String => 1,
-        TokenType::Char => 2,
-        TokenType::Digits => 7,
-        TokenType::Digits0 => 4,
-        TokenType::Delta => 11,
-        TokenType::Delta0 => 12,
-        TokenType::Match => 13,
-        TokenType::End => 14,
-        TokenType::Other => 0,
-    }
-}
-
-pub fn type_number(kind: Kind, t: TokenType) -> u8
-    ensures { λ r. ⌜ r ≡ typeNumber (numbersOf kind) t ⌝ }
-{
-    match kind {
-        Kind::Draft => draft_number(t),
-    }
 }
 
 pub fn kind(t: Token) -> u32
@@ -237,8 +155,8 @@ pub fn put(t: Token, bytes: &[u8], text: &mut [u8], at: usize) -> u32
 // A token's row, its text starting at a place. Who puts it has found the token's length before.
 pub fn put_row(t: Token, len: u32, rows: &mut [u32], row: usize, at: u32)
     requires { ⌜ len ≡ lengthOf t ⌝ }
-    requires { ⌜ rowSize * row + rowSize ≤ length (now rows) ⌝ }
-    ensures { λ _. ⌜ left rows ≡ written (lent rows) (rowSize * row) (rowOf t at) ⌝ }
+    requires { ⌜ row < rowRoom (inRows (now rows)) ⌝ }
+    ensures { λ _. ⌜ rowsLeft rows ≡ putRows (rowsLent rows) row (rowOf t at ∷ []) ⌝ }
 {
     let r = Row {
         kind: kind(t),

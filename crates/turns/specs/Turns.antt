@@ -1,14 +1,14 @@
 -- One turn of the walk over a name's positions, which is taken twice: the name is judged, and then kept.
-use Prim.Native.Nat.{ℕ, _+_, _-_, _*_, _≤_}
+use Prim.Native.Nat.{ℕ, _+_, _-_, _≤_, _<_}
 use mathlib.Core.Bool.{Bool}
 use mathlib.Core.List.{List}
 use denote.Ref.{RefT, now}
 use lib.ListN.{length}
 use Rattle.base.specs.Lent.{Buffer, lent}
 use Rattle.block.specs.declared.Setting.{Setting}
-use Rattle.kept.specs.Tables.{rowSize}
-use Rattle.tokens.specs.declared.TokenType.{TokenType}
-use Rattle.tokens.specs.Types.{rulesOf}
+use Rattle.tables.specs.Tables.{Table, inRows, rowRoom}
+use Rattle.types.specs.declared.TokenType.{TokenType}
+use Rattle.types.specs.Types.{rulesOf}
 use Rattle.tokens.specs.Tokens.{lengthOf}
 use Rattle.values.specs.declared.Step.{Step}
 use Rattle.values.specs.declared.Step.the-variants as step
@@ -22,7 +22,7 @@ use Rattle.taking.specs.Taking.{takePut}
 -- what stands at a place of the block, over the earlier name's rows
 abbrev pub stepNow : Setting → RefT (List ℕ) → RefT (List ℕ) → RefT (List ℕ) → RefT (List ℕ) → RefT (List ℕ) → ℕ → ℕ → Place → Step
 stepNow set bytes dir cursors text rows first count at =
-    stepAt (source (rulesOf set) (now bytes) (now dir) (now cursors)) (earlier (now text) (now rows) first count) (at .p .0)
+    stepAt (source (rulesOf set) (now bytes) (now dir) (now cursors)) (earlier (now text) (inRows (now rows)) first count) (at .p .0)
 
 abbrev pub stepLent : Setting → Buffer → Buffer → Buffer → Buffer → Buffer → ℕ → ℕ → Place → Step
 stepLent set bytes dir cursors text rows = stepNow set (bytes .entry) (dir .entry) (cursors .entry) (text .entry) (rows .entry)
@@ -38,7 +38,7 @@ turnPutLent set keeping bytes dir cursors text rows first count at =
     turnPut keeping (lent bytes) (stepLent set bytes dir cursors text rows first count at) (typeAt (blockLent set bytes dir cursors) (at .p .0)) at (memoryLent text rows cursors)
 
 -- room for a token and its row
-abbrev pub RoomAt : Step → Place → List ℕ → List ℕ → Type 0
-RoomAt (step.Got t c) at text rows = (at .used + at .len + lengthOf t ≤ length text) × (rowSize * (at .row + (at .p .0 - 1)) + rowSize ≤ length rows)
+abbrev pub RoomAt : Step → Place → List ℕ → Table → Type 0
+RoomAt (step.Got t c) at text rows = (at .used + at .len + lengthOf t ≤ length text) × (at .row + (at .p .0 - 1) < rowRoom rows)
 RoomAt step.End at text rows = Unit
 RoomAt (step.Refused r) at text rows = Unit

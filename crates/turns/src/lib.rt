@@ -9,6 +9,7 @@ ghost use Rattle.names.specs.Keeps.{memoryLeft};
 ghost use Rattle.taking.specs.Taking.{placeOf, Placed, turnOf};
 ghost use Rattle.turns.specs.Turns.{stepNow, stepLent, turnPutLent, RoomAt};
 ghost use Rattle.base.specs.Lent.{lent};
+ghost use Rattle.tables.specs.Tables.{inRows};
 use block::Setting;
 use block::stream;
 use spans::Position;
@@ -41,9 +42,9 @@ pub fn turn(
     at: Place,
 ) -> Turn
     requires { ⌜ Open (now bytes) (now dir) (now cursors) ⌝ }
-    requires { ⌜ Rows (at .used) (earlier (now text) (now rows) first count) ⌝ }
+    requires { ⌜ Rows (at .used) (earlier (now text) (inRows (now rows)) first count) ⌝ }
     requires { ⌜ Placed at × (first + count ≤ at .row) ⌝ }
-    requires { ⌜ (keeping ≡ true → RoomAt (stepNow set bytes dir cursors text rows first count at) at (now text) (now rows)) ⌝ }
+    requires { ⌜ (keeping ≡ true → RoomAt (stepNow set bytes dir cursors text rows first count at) at (now text) (inRows (now rows))) ⌝ }
     ensures { λ r. ⌜ r ≡ turnOf keeping (lent bytes) (lent text) (at .len) (stepLent set bytes dir cursors text rows first count at) ⌝ }
     ensures { λ _. ⌜ memoryLeft text rows cursors ≡ turnPutLent set keeping bytes dir cursors text rows first count at ⌝ }
 {

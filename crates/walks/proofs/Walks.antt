@@ -1,5 +1,5 @@
 -- The walk over a name's positions: what holds at each turn, whether the name is judged or kept, and what each way out of it answers.
-use Prim.Native.Nat.{ℕ, suc, _+_, _-_, _*_, _^_, _≤_, _<_}
+use Prim.Native.Nat.{ℕ, suc, _+_, _-_, _^_, _≤_, _<_}
 use mathlib.Core.Path.{_≡_, refl, sym, ap, _∙_, subst}
 use mathlib.Core.Bool.{Bool, true, false}
 use mathlib.Core.List.{List, [], _∷_}
@@ -13,9 +13,9 @@ use Rattle.base.specs.Every.{Below}
 use Rattle.spans.specs.declared.Cursor.{Cursor}
 use Rattle.block.specs.Block.{spanOf, cursorOf}
 use Rattle.block.specs.Open.{Open}
-use Rattle.kept.specs.Tables.{rowSize}
+use Rattle.tables.specs.Tables.{rowRoom}
 use Rattle.tokens.specs.declared.Token.{Token}
-use Rattle.tokens.specs.Types.{Rules}
+use Rattle.types.specs.Types.{Rules}
 use Rattle.tokens.specs.Tokens.{bytesOf, lengthOf}
 use Rattle.tokens.proofs.Laws.{length-bytes}
 use Rattle.values.specs.declared.Step.{Step}
@@ -45,6 +45,7 @@ use Rattle.names.proofs.Judgement.{judgeFrom, judge-from, judge-of, refuses, em
 use Rattle.names.proofs.Turns.{Going, begun, never-refuses, token-room, turned}
 use Rattle.names.proofs.Turns as turns
 use Rattle.running.proofs.Running.{run-judges, run-spoils, run-leaves, going-reaches, never-long, run-room, run-keeps}
+use Rattle.tables.proofs.Rows.{RowsBelow}
 
 -- a walk: which way it is taken, what it looks at and where it puts down; the memory is that at its beginning
 pub record Walk : Type 0 where
@@ -92,9 +93,8 @@ pub record Walking (x : Walk) (m : Memory) (p len : ℕ) : Type 0 where
   pub known : Rows (x .used) (back x m)
   pub reaches : Reaches (x .end) (back x m)
   pub belowText : Below 256 (m .text)
-  pub belowRows : Below (2 ^ 32) (m .rows)
+  pub belowRows : RowsBelow (2 ^ 32) (m .rows)
   pub lengthText : length (m .text) ≡ length (x .start .text)
-  pub lengthRows : length (m .rows) ≡ length (x .start .rows)
   pub judges : judgeFrom (src x m) (back x m) (129 - p) p len (p - 1) ≡ summary (name x)
   pub still : x .keeping ≡ false → m ≡ x .start
   pub going : x .keeping ≡ true → Keeping x m p len
@@ -142,13 +142,12 @@ module _ (x : Walk) (a : Asked x) where
         belowText = g .belowText;
         belowRows = g .belowRows;
         lengthText = g .lengthText;
-        lengthRows = g .lengthRows;
         judges = going-judges k m p len g;
         still = λ f. absurd (never (sym f ∙ k));
         going = λ _. g;
       }
 
-  pub begins : Below 256 (x .start .text) → Below (2 ^ 32) (x .start .rows) → Walking x (x .start) 1 0
+  pub begins : Below 256 (x .start .text) → RowsBelow (2 ^ 32) (x .start .rows) → Walking x (x .start) 1 0
   begins bt br =
       record {
         low = omega arith;
@@ -160,7 +159,6 @@ module _ (x : Walk) (a : Asked x) where
         belowText = bt;
         belowRows = br;
         lengthText = refl;
-        lengthRows = refl;
         judges = sym (judge-of (src x (x .start)) (back x (x .start)) (x .used) (x .start .cur));
         still = λ _. refl;
         going = λ k.
@@ -184,7 +182,6 @@ module _ (x : Walk) (a : Asked x) where
           belowText = w .belowText;
           belowRows = w .belowRows;
           lengthText = w .lengthText;
-          lengthRows = w .lengthRows;
           judges = j;
           still = w .still;
           going = λ k. absurd (never (sym f ∙ k));
@@ -209,7 +206,7 @@ module _ (x : Walk) (a : Asked x) where
       pub run-asks : Open (x .bytes) (x .dir) (m .cur) × (Rows (x .used) (back x m) × (Reaches (x .end) (back x m)
           × (((1 ≤ p) × ((p ≤ 128) × (len ≤ 254))) × (((x .used < 2 ^ 31) × ((x .first + x .count ≤ x .row) × (x .row < 2 ^ 31)))
           × (x .keeping ≡ true → (q l : ℕ) → runOf (src x m) (back x m) (x .end) p len ≡ onAt q l
-          → (x .used + l ≤ length (m .text)) × (rowSize * (x .row + (q - 1)) ≤ length (m .rows)))))))
+          → (x .used + l ≤ length (m .text)) × (x .row + (q - 1) ≤ rowRoom (m .rows)))))))
       run-asks = (
         w .opened,
         (
@@ -239,7 +236,7 @@ module _ (x : Walk) (a : Asked x) where
         run-puts b k m' e = rw (← k, ← h) e
 
         pub walks-run : (m' : Memory) → m' ≡ runPut (x .keeping) (back x m) (x .used) (x .row) p len r m
-            → Below 256 (m' .text) → Below (2 ^ 32) (m' .rows) → Walking x m' q l
+            → Below 256 (m' .text) → RowsBelow (2 ^ 32) (m' .rows) → Walking x m' q l
         walks-run m' e bt br =
             by-test (x .keeping)
             (λ k.
@@ -298,7 +295,7 @@ module _ (x : Walk) (a : Asked x) where
         judged-put f m' e = e ∙ pick-false _ _ f
 
         kept-on : (k : x .keeping ≡ true) (v : ℕ) → v ≡ lengthOf t → (m' : Memory) → m' ≡ put (step.Got t c)
-            → Below 256 (m' .text) → Below (2 ^ 32) (m' .rows) → Walking x m' (p + 1) (len + v)
+            → Below 256 (m' .text) → RowsBelow (2 ^ 32) (m' .rows) → Walking x m' (p + 1) (len + v)
         kept-on k v l m' e bt br =
             let z : x .used + len + v ≡ x .used + (len + v) = omega arith in
             kept-walks k m' (p + 1) (len + v)
@@ -323,7 +320,7 @@ module _ (x : Walk) (a : Asked x) where
         taken-kept k q = never (sym q ∙ pick-true true _ k)
 
         got-on : (v : ℕ) → turn.On v ≡ turnOf (x .keeping) (x .bytes) (m .text) len (step.Got t c) → (m' : Memory) → m' ≡ put (step.Got t c)
-            → Below 256 (m' .text) → Below (2 ^ 32) (m' .rows) → Walking x m' (p + 1) (len + v)
+            → Below 256 (m' .text) → RowsBelow (2 ^ 32) (m' .rows) → Walking x m' (p + 1) (len + v)
         unfolding turnOf
         got-on v q m' e bt br =
             by-test (taken (x .keeping) (x .bytes) (m .text) t len)
@@ -351,7 +348,7 @@ module _ (x : Walk) (a : Asked x) where
             (judged-put f m' e)))
 
       on-from : (st : Step) → stepAt (src x m) (back x m) p ≡ st → (v : ℕ) → turn.On v ≡ turnOf (x .keeping) (x .bytes) (m .text) len st → (m' : Memory) → m' ≡ put st
-          → Below 256 (m' .text) → Below (2 ^ 32) (m' .rows) → Walking x m' (p + 1) (len + v)
+          → Below 256 (m' .text) → RowsBelow (2 ^ 32) (m' .rows) → Walking x m' (p + 1) (len + v)
       unfolding turnOf
       on-from (step.Got t c) s v q m' e bt br = got-on t c s v q m' e bt br
       on-from step.End s v q m' e bt br = let z : _≡_ {A = ℕ} 0 1 = cc in absurd (omega arith)
@@ -359,7 +356,7 @@ module _ (x : Walk) (a : Asked x) where
 
       -- a token more
       pub walks-on : (at : Place) → at ≡ here → (r : Turn) (v : ℕ) → r ≡ turn.On v → (m' : Memory) → TurnGives x m at r m'
-          → Below 256 (m' .text) → Below (2 ^ 32) (m' .rows) → Walking x m' (p + 1) (len + v)
+          → Below 256 (m' .text) → RowsBelow (2 ^ 32) (m' .rows) → Walking x m' (p + 1) (len + v)
       walks-on at e r v q m' g =
           let f = subst (λ (z : Place). TurnGives x m z r m') e g in
           on-from (stepAt (src x m) (back x m) p) refl v (sym q ∙ f .0) m' (f .1)

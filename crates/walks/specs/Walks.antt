@@ -6,7 +6,8 @@ use denote.Ref.{RefT, now}
 use Rattle.base.specs.Choice.{pick}
 use Rattle.base.specs.Lent.{Buffer}
 use Rattle.block.specs.declared.Setting.{Setting}
-use Rattle.tokens.specs.Types.{rulesOf}
+use Rattle.types.specs.Types.{rulesOf}
+use Rattle.tables.specs.Tables.{inRows}
 use Rattle.sources.specs.Source.{source, earlier}
 use Rattle.names.specs.Names.{Named, nameOf}
 use Rattle.names.specs.Judge.{draftOf}
@@ -15,7 +16,7 @@ use Rattle.names.specs.Keeps.{Memory, putName}
 -- the name in the block from its cursors on, over the earlier name's rows
 abbrev pub nameNow : Setting → RefT (List ℕ) → RefT (List ℕ) → RefT (List ℕ) → RefT (List ℕ) → RefT (List ℕ) → ℕ → ℕ → ℕ → Named
 nameNow set bytes dir cursors text rows first count used =
-    nameOf (source (rulesOf set) (now bytes) (now dir) (now cursors)) (earlier (now text) (now rows) first count) used (now cursors)
+    nameOf (source (rulesOf set) (now bytes) (now dir) (now cursors)) (earlier (now text) (inRows (now rows)) first count) used (now cursors)
 
 abbrev pub nameLent : Setting → Buffer → Buffer → Buffer → Buffer → Buffer → ℕ → ℕ → ℕ → Named
 nameLent set bytes dir cursors text rows = nameNow set (bytes .entry) (dir .entry) (cursors .entry) (text .entry) (rows .entry)

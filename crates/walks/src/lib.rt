@@ -11,6 +11,7 @@ ghost use Rattle.names.specs.Judge.{summary};
 ghost use Rattle.names.specs.Keeps.{Roomy, memoryLent, memoryLeft};
 ghost use Rattle.repeating.specs.Repeats.{Repeats};
 ghost use Rattle.walks.specs.Walks.{nameNow, nameLent, walkPut};
+ghost use Rattle.tables.specs.Tables.{inRows};
 use block::Block;
 use block::Setting;
 use names::Judged;
@@ -35,10 +36,10 @@ pub fn walk(
     row: u32,
 ) -> Judged
     requires { ⌜ Open (now bytes) (now dir) (now cursors) ⌝ }
-    requires { ⌜ Rows used (earlier (now text) (now rows) first count) ⌝ }
+    requires { ⌜ Rows used (earlier (now text) (inRows (now rows)) first count) ⌝ }
     requires { ⌜ (used < 2 ^ 31) × ((first + count ≤ row) × (row < 2 ^ 31)) ⌝ }
-    requires { ⌜ Repeats known (earlier (now text) (now rows) first count) ⌝ }
-    requires { ⌜ (keep ≡ true → Roomy (nameNow set bytes dir cursors text rows first count used) (first + count) used row (now text) (now rows)) ⌝ }
+    requires { ⌜ Repeats known (earlier (now text) (inRows (now rows)) first count) ⌝ }
+    requires { ⌜ (keep ≡ true → Roomy (nameNow set bytes dir cursors text rows first count used) (first + count) used row (now text) (inRows (now rows))) ⌝ }
     ensures { λ r. ⌜ r ≡ summary (nameLent set bytes dir cursors text rows first count used) ⌝ }
     ensures { λ _. ⌜ memoryLeft text rows cursors ≡ walkPut keep used row (nameLent set bytes dir cursors text rows first count used) (memoryLent text rows cursors) ⌝ }
 {

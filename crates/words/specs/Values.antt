@@ -3,7 +3,7 @@ use Prim.Native.Nat.{ℕ}
 use mathlib.Core.List.{List, [], _∷_, _++_}
 use lib.ListN.{length}
 use Rattle.digits.specs.Digits.{printed, padded}
-use Rattle.kept.specs.declared.Row.{Row}
+use Rattle.tables.specs.declared.Row.{Row}
 
 pub data Value : Type 0 where
   string : List ℕ → Value

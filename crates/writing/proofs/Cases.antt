@@ -5,7 +5,7 @@ use mathlib.Core.List.{List, [], _∷_}
 use lib.ListN.{replicate}
 use Rattle.base.specs.Choice.{pick}
 use Rattle.base.specs.Memory.{part, written}
-use Rattle.base.specs.Same.{same}
+use Rattle.comparing.specs.Same.{same}
 use Rattle.digits.specs.Digits.{isDigit, valueOf, valueFrom}
 use Rattle.base.specs.Every.{every}
 use Rattle.classes.specs.Classes.{isAllowed}
@@ -21,7 +21,7 @@ use Rattle.block.specs.declared.Refusal.the-variants.{Plain, At}
 use Rattle.writing.specs.declared.WriteAnswer.{WriteAnswer}
 use Rattle.writing.specs.declared.WriteAnswer.the-variants.{Written, Refused}
 use Rattle.inputs.specs.Inputs.{namesAfter, namesOf, ended, goodName, judgedFrom}
-use Rattle.tokens.specs.Types.{draftPlain, numbersOf, typeNumber, rulesOf}
+use Rattle.types.specs.Types.{draftPlain, numbersOf, typeNumber, rulesOf}
 use Rattle.tokenputs.specs.TokenPuts.{pieceType, choiceType, choicePuts, tokenPuts}
 use Rattle.valueputs.specs.ValuePuts.{piecePuts, valuePuts}
 use Rattle.nameputs.specs.NamePuts.{headPuts, referencePuts, namePuts, putsFrom, putsOf}

@@ -4,18 +4,18 @@ use borrow.Author.Needs.{needs}
 use Rattle.block.proofs.span_of.Statement.{statement}
 use Rattle.block.proofs.span_of.Tie as tie
 
-mul-result : tie.Need-mul-result
-mul-result c = search needs
+mul-t3 : tie.Need-mul-t3
+mul-t3 c = search needs
 
-add-result : tie.Need-add-result
-add-result c = search needs
+add-t4 : tie.Need-add-t4
+add-t4 c = search needs
 
-cast-result : tie.Need-cast-result
-cast-result c = search needs
+cast-t5 : tie.Need-cast-t5
+cast-t5 c = search needs
 
 returns : tie.Need-returns
 unfolding spanOf
 returns c = refl
 
 pub span-of-spec : {M : Type 1} → statement M
-span-of-spec = tie.close (tie.spec mul-result add-result cast-result returns)
+span-of-spec = tie.close (tie.spec mul-t3 add-t4 cast-t5 returns)

@@ -5,7 +5,7 @@ use borrow.Author.Tests.{not-true, not-false}
 use denote.Ref.{now}
 use lib.ListN.{length}
 use Rattle.base.specs.Memory.{part}
-use Rattle.kept.specs.Tables.{entrySize, room}
+use Rattle.tables.specs.Tables.{entrySize, room}
 use Rattle.kept.specs.Judgement.{textCounts, entryText}
 use Rattle.kept.proofs.Laws.{text-counted, text-inside}
 use Rattle.claims.specs.Claims.{nameText}

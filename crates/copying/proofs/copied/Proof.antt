@@ -7,6 +7,7 @@ use mathlib.Core.List.{[]}
 use mathlib.Core.Path.{_≡_, sym, _∙_}
 use borrow.Author.Needs.{needs}
 use Rattle.copying.proofs.copied.Statement.{statement}
+use Rattle.tables.specs.Tables.{inRows}
 use Rattle.copying.proofs.copied.Tie as tie
 
 has-room-requires : tie.Need-has-room-requires
@@ -30,7 +31,7 @@ copy-within-requires c κs =
     let at-has-room : tie.After-has-room = search in
     let z : tie.Start = search in
     let a = z .args in
-    copy-asks [] [] (now (a .cursors)) (now (a .text)) (now (a .entries)) (now (a .rows)) (a .state) (a .e) (a .distance .0) (z .pre .1 .0) (z .pre .0) (sym (at-has-room .has-room .ensures) ∙ at-then1 .if1 .taken)
+    copy-asks [] [] (now (a .cursors)) (now (a .text)) (now (a .entries)) (inRows (now (a .rows))) (a .state) (a .e) (a .distance .0) (z .pre .1 .0) (z .pre .0) (sym (at-has-room .has-room .ensures) ∙ at-then1 .if1 .taken)
 
 add-put-byte : tie.Need-add-put-byte
 add-put-byte c = search needs
@@ -42,7 +43,7 @@ put-byte-requires c κs =
     let at-has-room : tie.After-has-room = search in
     let z : tie.Start = search in
     let a = z .args in
-    let w = has-room [] [] (now (a .cursors)) (now (a .text)) (now (a .entries)) (now (a .rows)) (a .state) (a .e .length) 0 (sym (at-has-room .has-room .ensures) ∙ at-then1 .if1 .taken) .texts in
+    let w = has-room [] [] (now (a .cursors)) (now (a .text)) (now (a .entries)) (inRows (now (a .rows))) (a .state) (a .e .length) 0 (sym (at-has-room .has-room .ensures) ∙ at-then1 .if1 .taken) .texts in
     let k : length (at-copy-within .copy-within .last .0) ≡ length (now (a .text)) = at-copy-within .copy-within .kept .0 in
     omega arith
 
@@ -56,7 +57,7 @@ enter-requires c κs =
     let at-has-room : tie.After-has-room = search in
     let z : tie.Start = search in
     let a = z .args in
-    enter-asks [] [] (now (a .cursors)) (now (a .text)) (now (a .entries)) (now (a .rows)) (a .state) (a .e .length) 0 (z .pre .0) (has-room [] [] (now (a .cursors)) (now (a .text)) (now (a .entries)) (now (a .rows)) (a .state) (a .e .length) 0 (sym (at-has-room .has-room .ensures) ∙ at-then1 .if1 .taken)) (z .pre .1 .0 .most) (omega arith)
+    enter-asks [] [] (now (a .cursors)) (now (a .text)) (now (a .entries)) (inRows (now (a .rows))) (a .state) (a .e .length) 0 (z .pre .0) (has-room [] [] (now (a .cursors)) (now (a .text)) (now (a .entries)) (inRows (now (a .rows))) (a .state) (a .e .length) 0 (sym (at-has-room .has-room .ensures) ∙ at-then1 .if1 .taken)) (z .pre .1 .0 .most) (omega arith)
 
 refuse-requires : tie.Need-refuse-requires
 refuse-requires c κs = search needs
@@ -79,7 +80,7 @@ returns c =
     let at-has-room : tie.After-has-room = search in
     let z : tie.Start = search in
     let a = z .args in
-    λ rules bytes dir. dup-kept rules bytes dir (now (a .cursors)) (now (a .text)) (now (a .entries)) (now (a .rows)) (a .state) (a .e) (a .distance .0) (z .pre .1 .0) (z .pre .0) (sym (at-has-room .has-room .ensures) ∙ at-then1 .if1 .taken) (c .before .before .enter .ensures .0) (at-move-head .move-head .ensures) (at-copy-within .copy-within .ensures) (at-put-byte .put-byte .ensures) (c .before .before .enter .ensures .1)
+    λ rules bytes dir. dup-kept rules bytes dir (now (a .cursors)) (now (a .text)) (now (a .entries)) (inRows (now (a .rows))) (a .state) (a .e) (a .distance .0) (z .pre .1 .0) (z .pre .0) (sym (at-has-room .has-room .ensures) ∙ at-then1 .if1 .taken) (c .before .before .enter .ensures .0) (at-move-head .move-head .ensures) (at-copy-within .copy-within .ensures) (at-put-byte .put-byte .ensures) (c .before .before .enter .ensures .1)
 
 same-length-4 : tie.Need-same-length-4
 same-length-4 c = search needs
@@ -91,7 +92,7 @@ returns-2 : tie.Need-returns-2
 returns-2 c =
     let z : tie.Start = search in
     let a = z .args in
-    λ rules bytes dir. dup-refused rules bytes dir (now (a .cursors)) (now (a .text)) (now (a .entries)) (now (a .rows)) (a .state) (a .e) (a .distance .0) (z .pre .1 .0) (z .pre .0) (sym (c .before .before .has-room .ensures) ∙ c .before .if1 .left) (c .refuse .ensures)
+    λ rules bytes dir. dup-refused rules bytes dir (now (a .cursors)) (now (a .text)) (now (a .entries)) (inRows (now (a .rows))) (a .state) (a .e) (a .distance .0) (z .pre .1 .0) (z .pre .0) (sym (c .before .before .has-room .ensures) ∙ c .before .if1 .left) (c .refuse .ensures)
 
 pub copied-spec : {M : Type 1} → statement M
 copied-spec =

@@ -10,19 +10,19 @@ use Rattle.base.proofs.Holding.{Holds, holds-written, holds-left, holds-right, 
 use Rattle.kept.proofs.Frame.{entry-holds}
 use Rattle.block.specs.Open.{Open}
 use Rattle.block.specs.Streams.{dupStream}
-use Rattle.kept.specs.declared.Entry.{Entry}
-use Rattle.kept.specs.Tables.{Kept, entryAt}
+use Rattle.tables.specs.declared.Entry.{Entry}
+use Rattle.tables.specs.Tables.{Kept, entryAt}
 use Rattle.kept.specs.Inside.{Counted}
 use Rattle.sources.specs.Source.{Source}
 use Rattle.names.specs.Names.{Draft}
-use Rattle.entries.specs.Entries.{kept}
+use Rattle.outcomes.specs.Keeping.{kept}
 use Rattle.claims.specs.Claims.{nameText}
 use Rattle.demands.specs.Takes.{headTakes}
 use Rattle.demands.specs.Right.{Refers}
 use Rattle.demands.specs.Adds.{Adds, Kind, by-dup, by-diff}
 use Rattle.demands.specs.Refusals.{Ready}
 use Rattle.demands.proofs.Lemmas.Moves.{Moves}
-use Rattle.demands.proofs.Lemmas.Writes.{alike-written}
+use Rattle.demands.proofs.Lemmas.Writes.{alike-written, rows-alike}
 use Rattle.demands.proofs.Lemmas.Making.{Made, dup, diff, made-whole, Room}
 
 abbrev pub entry : ℕ → ℕ → ℕ → ℕ → ℕ → Entry
@@ -73,7 +73,7 @@ module _ (s : Source) (m : Kept) (x : Draft) (first rows d : ℕ) (r : Ready s m
         starts = ap (λ n. n .start) e;
         long = ap (λ n. n .length) e;
         refers = rw e (refers-made s m x first rows d o);
-        table = alike-written (m .rows) _ (x .rows) _ (omega (arith, made-whole s m x first rows d o)) (f .rows);
+        table = rows-alike (m .rows) (m .state .rows) (x .rows) _ (omega (arith, made-whole s m x first rows d o)) (f .rows);
         kind = rw e (v .kind);
         moves = v .moves .by;
         opened = opened;

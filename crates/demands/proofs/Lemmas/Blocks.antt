@@ -13,9 +13,9 @@ use Rattle.base.proofs.Choice.{both-true, by-test}
 use Rattle.block.specs.declared.Opened.the-variants as opened
 use Rattle.block.specs.Block.{spanOf, startOf, endOf, cursorOf, starts, state, Opening, opening, openOf}
 use Rattle.block.proofs.Laws.{span-below, cursor-set-same, cursor-set-other, starts-length, starts-cursor, sound-of, opens-fresh}
-use Rattle.kept.specs.Tables.{Kept}
+use Rattle.tables.specs.Tables.{Kept}
 use Rattle.sources.specs.Source.{source}
-use Rattle.entries.specs.Outcomes.{Outcome}
+use Rattle.outcomes.specs.Outcomes.{Outcome}
 use Rattle.inner.specs.Next.{nextOf}
 use Rattle.demands.specs.Runs.{Lent, lent, read, left, reading, after, run}
 use Rattle.demands.specs.Cases.{draftRules, Stream, bytesIn, dirFrom, inDirectory, Buffers, empty, Told, told, readFrom, openIn, readIn}

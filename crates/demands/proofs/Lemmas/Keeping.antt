@@ -1,5 +1,5 @@
 -- What a read leaves in order: the counts and cursors, every kept name with its rows, and so all that demand 3 says of them.
-use Prim.Native.Nat.{ℕ, _+_, _-_, _*_, _≤_, _<_}
+use Prim.Native.Nat.{ℕ, _+_, _-_, _≤_, _<_}
 use mathlib.Core.Path.{_≡_, sym, ap, _∙_, subst}
 use mathlib.Core.Logic.{⊎-elim}
 use mathlib.Core.List.{[], _∷_, _++_, List}
@@ -12,21 +12,23 @@ use Rattle.block.specs.declared.State.{State}
 use Rattle.block.specs.Block.{state}
 use Rattle.block.specs.Open.{Open}
 use Rattle.block.proofs.Laws.{Accepted, accepted, accepted-open}
-use Rattle.kept.specs.Tables.{rowSize, Kept, entryAt, rowAt, keeping}
+use Rattle.tables.specs.Tables.{Kept, entryAt, rowAt, keeping, putRows}
 use Rattle.kept.specs.Inside.{Counted, Earlier}
 use Rattle.kept.proofs.Laws.{fresh-counted, earlier}
-use Rattle.kept.proofs.Frame.{row-written}
-use Rattle.kept.proofs.Later.{Later}
+use Rattle.tables.proofs.Rows.{within-put}
+use Rattle.kept.proofs.Later.{Later, entry-later}
 use Rattle.claims.specs.Claims.{nameText}
 use Rattle.sources.specs.Source.{Source, source}
 use Rattle.names.specs.Names.{Draft}
 use Rattle.runs.specs.Runs.{textLength}
 use Rattle.earlier.specs.Fits.{AllFit, AllSpelt}
-use Rattle.entries.specs.Entries.{kept}
+use Rattle.outcomes.specs.Keeping.{kept}
 use Rattle.earlier.specs.Back.{entryBack, rowsOf}
-use Rattle.entries.specs.Outcomes.{Outcome}
+use Rattle.outcomes.specs.Outcomes.{Outcome}
 use Rattle.reads.specs.Reads.{readOf}
+use Rattle.reads.proofs.Spelling.{rowIn}
 use Rattle.reads.proofs.Holding as reads
+use Rattle.demands.specs.ByWords.{ByWords}
 use Rattle.demands.specs.Right.{Home, Right}
 use Rattle.demands.specs.Runs.{lent, Lent, read, left, Fresh, Call, reading, claiming, after}
 use Rattle.demands.specs.Refusals.{Ready, ReadCase, refuses, ends, keeps}
@@ -35,7 +37,8 @@ use Rattle.demands.proofs.Lemmas.Making.{Made, dup, diff, Room, made, r
 use Rattle.demands.proofs.Lemmas.Later.{NameSure, later-adds, home-later, rows-later, name-later}
 use Rattle.demands.proofs.Lemmas.Adding.{entry, text-kept, entry-kept, kept-adds, refers-made}
 use Rattle.demands.proofs.Lemmas.Ways.{read-case, ready-holds}
-use Rattle.tokens.specs.Types.{Rules}
+use Rattle.types.specs.Types.{Rules}
+use Rattle.words.specs.Words.{Telling}
 
 pub record Sure (bytes dir : List ℕ) (l : Lent) : Type 0 where
   pub opened : Open bytes dir (l .cur)
@@ -45,9 +48,9 @@ pub record Sure (bytes dir : List ℕ) (l : Lent) : Type 0 where
   pub homes : (j : ℕ) → j < l .kept .state .rows → Home (l .kept) j
   pub names : (i : ℕ) → i < l .kept .state .names → NameSure (l .kept) i
 
-pub sure-right : (bytes dir : List ℕ) (l : Lent) → Sure bytes dir l → Right bytes dir l
+pub sure-right : (rules : Rules) (bytes dir : List ℕ) (b : Telling) (l : Lent) → Sure bytes dir l → ByWords rules bytes dir b l → Right rules bytes dir b l
 unfolding rowsOf
-sure-right bytes dir l s =
+sure-right rules bytes dir b l s t =
     let m : Kept = l .kept in
     let inside : (i : ℕ) → i < m .state .names → Earlier m i = λ i h. earlier m i (s .fits i h) in
     record {
@@ -69,22 +72,26 @@ sure-right bytes dir l s =
             prints = rows-print _ _ _ _ (s .spelt i h) (inside i h .rows .some) ∙ sym (s .names i h .spells);
             refers = s .names i h .refers;
           };
+      told = t;
     }
 
 -- a name more
 module _ (s : Source) (m : Kept) (r : Ready s m) where
-  row-kept : (x : Draft) (first rows d j : ℕ) → length (x .rows) ≡ rowSize * x .count → m .state .rows ≤ j → j < m .state .rows + x .count
-      → rowAt (kept m x first rows d .kept .rows) j ≡ rowAt (x .rows) (j - m .state .rows)
+  row-kept : (x : Draft) (first rows d j : ℕ) → length (x .rows) ≡ x .count → m .state .rows ≤ j → j < m .state .rows + x .count
+      → rowAt (kept m x first rows d .kept .rows) j ≡ rowIn (x .rows) (j - m .state .rows)
   unfolding kept
-  row-kept x first rows d j f a l = row-written (m .rows) (m .state .rows) (x .rows) j (j - m .state .rows) (r .counts .rowsUsed) (omega arith) (omega arith)
+  row-kept x first rows d j f a l =
+      let e : j ≡ m .state .rows + (j - m .state .rows) = omega arith in
+      ap (rowAt (putRows (m .rows) (m .state .rows) (x .rows))) e ∙ within-put (m .rows) (m .state .rows) (x .rows) (r .counts .rowsUsed) (j - m .state .rows) _ (omega arith)
 
   -- its rows are its own and lie in its text, or it adds none
   own-home : (x : Draft) (first rows d : ℕ) → Made s m x first rows d
       → entryAt (kept m x first rows d .kept .names) (m .state .names) ≡ entry (m .state .text) (length (x .text)) first rows d
+      → ((i : ℕ) → i < m .state .names → entryAt (kept m x first rows d .kept .names) i .first + entryAt (kept m x first rows d .kept .names) i .rows ≤ m .state .rows)
       → (j : ℕ) → m .state .rows ≤ j → j < m .state .rows + x .count → Home (kept m x first rows d .kept) j
   unfolding kept
-  own-home x first rows d (dup b n e v) q j a l = absurd (omega arith)
-  own-home x first rows d (diff y b n p v) q j a l =
+  own-home x first rows d (dup b n e v) q old j a l = absurd (omega arith)
+  own-home x first rows d (diff y b n p v) q old j a l =
       let i : ℕ = j - m .state .rows in
       let k = row-kept x first rows d j (p .whole) a l in
       record {
@@ -92,6 +99,7 @@ module _ (s : Source) (m : Kept) (r : Ready s m) where
         kept = omega arith;
         from = rw q a;
         to = rw q l;
+        adds = λ i h. omega (arith, old i h, a);
         starts = rw (q, k) (p .from i (omega arith) .0);
         ends = rw (q, k) (p .each i (omega arith) .ends);
       }
@@ -148,6 +156,10 @@ module _ (s : Source) (m : Kept) (r : Ready s m) where
           refers = rw entered (refers-made s m x first rows d o);
         }
 
+    -- the rows of the names before lie below its own
+    older : (i : ℕ) → i < m .state .names → entryAt (now .names) i .first + entryAt (now .names) i .rows ≤ m .state .rows
+    older i l = rw (entry-later m now later i l) (earlier m i (was .fits i l) .rows .ends)
+
     pub keeps-sure : Sure (s .bytes) (s .dir) (lent (x .cur) now)
     unfolding kept
     keeps-sure = record {
@@ -155,7 +167,7 @@ module _ (s : Source) (m : Kept) (r : Ready s m) where
       counts = h .counted;
       fits = all-fit;
       spelt = h .spelt (was .fits) (was .spelt);
-      homes = λ j l. ⊎-elim (λ a. home-later m now later j a (was .homes j a)) (λ a. own-home x first rows d o entered j a l) (lt-or-ge j (m .state .rows));
+      homes = λ j l. ⊎-elim (λ a. home-later m now later j a (was .homes j a)) (λ a. own-home x first rows d o entered older j a l) (lt-or-ge j (m .state .rows));
       names = λ i l.
           ⊎-elim (λ a. subst (NameSure now) (sym a) name-sure)
           (λ a. name-later m now later i a (earlier m i (was .fits i a)) (was .names i a))

@@ -6,14 +6,14 @@ use native.Mathlib.Omega.{arith}
 use lib.ListN.{getD}
 use Rattle.base.proofs.Below.{same-at, same-of}
 use Rattle.block.specs.declared.State.{State}
-use Rattle.kept.specs.declared.Entry.{Entry}
-use Rattle.kept.specs.Tables.{Kept, entryAt, rowAt}
+use Rattle.tables.specs.declared.Entry.{Entry}
+use Rattle.tables.specs.Tables.{Kept, entryAt, rowAt}
 use Rattle.kept.specs.Inside.{TextInside, EntryInside, Earlier}
 use Rattle.kept.proofs.Later.{Later, entry-later, row-later, part-later}
 use Rattle.claims.specs.Claims.{nameText}
 use Rattle.sources.specs.Source.{Source}
 use Rattle.runs.specs.Runs.{textLength}
-use Rattle.entries.specs.Outcomes.{Outcome}
+use Rattle.outcomes.specs.Outcomes.{Outcome}
 use Rattle.demands.specs.Right.{Home, Refers}
 use Rattle.demands.specs.Adds.{Adds}
 use Rattle.demands.proofs.Lemmas.Printing.{rowsText}
@@ -29,7 +29,7 @@ later-adds s m i o a =
       rows = omega arith;
       in-text = same-of _ _ _ (a .text .lengths) (λ j l. a .text .others j (inl l));
       in-names = same-of _ _ _ (a .names .lengths) (λ j l. a .names .others j (inl l));
-      in-rows = same-of _ _ _ (a .table .lengths) (λ j l. a .table .others j (inl l));
+      in-rows = λ j l. a .table .others j (inl l);
     }
 
 -- what holds of a kept name besides that its entry and rows fit and are spelt: the byte 10 after its text is in the used part,
@@ -54,6 +54,7 @@ module _ (m w : Kept) (h : Later m w) where
         kept = omega (arith, k .kept, h .names);
         from = rw e (k .from);
         to = rw e (k .to);
+        adds = λ i l. rw (entry-later m w h i (omega (arith, k .kept))) (k .adds i l);
         starts = rw (e, r) (k .starts);
         ends = rw (e, r) (k .ends);
       }

@@ -10,14 +10,14 @@ use lib.ListN.{length}
 use Rattle.base.proofs.Choice.{both-true}
 use Rattle.base.specs.Memory.{part}
 use Rattle.block.specs.Streams.{dupStream, diffStream}
-use Rattle.kept.specs.Tables.{entrySize, rowSize, Kept}
+use Rattle.tables.specs.Tables.{entrySize, Kept, rowRoom}
 use Rattle.kept.specs.Inside.{EntryInside}
-use Rattle.kept.proofs.Laws.{room-holds}
+use Rattle.tables.proofs.Room.{room-holds}
 use Rattle.sources.specs.Source.{Source, Earlier}
 use Rattle.repeats.specs.Sound.{Rows}
 use Rattle.repeats.proofs.Laws.{rows-none, rows-judged}
 use Rattle.names.specs.Names.{Draft, draft, named, nameOf}
-use Rattle.entries.specs.Entries.{roomFor}
+use Rattle.outcomes.specs.Keeping.{roomFor}
 use Rattle.heads.specs.Heads.{headPast}
 use Rattle.earlier.specs.Back.{rowsOf, none, entryBack}
 use Rattle.reads.proofs.Fitting.{Rowed, name-rowed}
@@ -53,7 +53,7 @@ module _ (s : Source) (m : Kept) (r : Ready s m) where
   made x first rows d (walked y b e l q) = walk-made x d e l q
 
 -- its rows are whole
-pub made-whole : (s : Source) (m : Kept) (x : Draft) (first rows d : ℕ) → Made s m x first rows d → length (x .rows) ≡ rowSize * x .count
+pub made-whole : (s : Source) (m : Kept) (x : Draft) (first rows d : ℕ) → Made s m x first rows d → length (x .rows) ≡ x .count
 made-whole s m x first rows d (dup b n e w) = refl
 made-whole s m x first rows d (diff y b r w v) = w .whole
 
@@ -61,7 +61,7 @@ made-whole s m x first rows d (diff y b r w v) = w .whole
 pub record Room (m : Kept) (x : Draft) : Type 0 where
   pub text : m .state .text + length (x .text) + 1 ≤ length (m .text)
   pub names : entrySize * m .state .names + entrySize ≤ length (m .names)
-  pub rows : rowSize * (m .state .rows + x .count) ≤ length (m .rows)
+  pub rows : m .state .rows + x .count ≤ rowRoom (m .rows)
 
 pub room-each : (m : Kept) (x : Draft) → roomFor m x ≡ true → Room m x
 unfolding roomFor
@@ -71,5 +71,5 @@ room-each m x e =
     record {
       text = leb-true _ _ (a .0);
       names = omega (arith, room-holds entrySize (omega arith) (m .names) (m .state .names + 1) (leb-true _ _ (b .0)));
-      rows = room-holds rowSize (omega arith) _ _ (leb-true _ _ (b .1));
+      rows = leb-true _ _ (b .1);
     }

@@ -10,8 +10,8 @@ use Rattle.base.specs.Memory.{part}
 use Rattle.base.proofs.Choice.{pick-holds}
 use Rattle.base.proofs.Lists.{part-next}
 use Rattle.tokens.specs.Tokens.{bytesOf}
-use Rattle.kept.specs.declared.Row.{Row}
-use Rattle.kept.specs.Tables.{rowAt}
+use Rattle.tables.specs.declared.Row.{Row}
+use Rattle.tables.specs.Tables.{rowAt, Table}
 use Rattle.sources.specs.Source.{earlier}
 use Rattle.repeats.proofs.Ways.{repeats-padded, repeats-digits}
 use Rattle.repeating.specs.Repeats.{Spelt, RowsSpelt}
@@ -29,10 +29,10 @@ row-prints text r s =
     (λ a. pick-holds P (eqb (r .kind) 4) _ _ (λ b. rw (← s .prints [], ← repeats-padded text r (eqb-true _ _ b))) (λ b. refl))
 
 -- the part of the text where so many rows from one on have theirs
-abbrev pub rowsText : List ℕ → List ℕ → ℕ → ℕ → List ℕ
+abbrev pub rowsText : List ℕ → Table → ℕ → ℕ → List ℕ
 rowsText text rows first count = part text (rowAt rows first .start) (rowAt rows first .start + textLength rows first (first + count))
 
-module _ (text rows : List ℕ) (first count : ℕ) (s : RowsSpelt (earlier text rows first count)) where
+module _ (text : List ℕ) (rows : Table) (first count : ℕ) (s : RowsSpelt (earlier text rows first count)) where
   some-print : (n i : ℕ) → first ≤ i → i + n < first + count
       → rowsPrint text rows i (suc n) ≡ part text (rowAt rows i .start) (rowAt rows i .start + textSize rows i (suc n))
   unfolding rowsPrint rowText textSize

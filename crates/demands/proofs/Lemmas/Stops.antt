@@ -17,8 +17,8 @@ use Rattle.spans.specs.declared.NextByte.the-variants as byte
 use Rattle.spans.specs.declared.NextFour.{NextFour}
 use Rattle.spans.specs.declared.NextFour.the-variants as four
 use Rattle.block.specs.Streams.{digits0Stream, dzlenStream, ddeltaStream, ddelta0Stream}
-use Rattle.tokens.specs.declared.TokenType.{TokenType}
-use Rattle.tokens.specs.declared.TokenType.the-variants as type
+use Rattle.types.specs.declared.TokenType.{TokenType}
+use Rattle.types.specs.declared.TokenType.the-variants as type
 use Rattle.tokens.specs.declared.Token.{Token}
 use Rattle.tokens.specs.Tokens.{bytesOf}
 use Rattle.sources.specs.Source.{Source, Earlier, byteIn, fourIn}

@@ -14,10 +14,10 @@ use Rattle.block.specs.declared.State.{State}
 use Rattle.block.specs.declared.Refusal.the-variants as refusal
 use Rattle.block.specs.Block.{startOf, endOf, cursorOf, state}
 use Rattle.block.proofs.Laws.{Accepted, accepted, starts-cursor}
-use Rattle.kept.specs.Tables.{Kept}
+use Rattle.tables.specs.Tables.{Kept}
 use Rattle.sources.specs.Source.{source}
 use Rattle.entries.specs.declared.Answer.the-variants as answer
-use Rattle.entries.specs.Outcomes.{Outcome, outcome, plain, atName}
+use Rattle.outcomes.specs.Outcomes.{Outcome, outcome, plain, atName}
 use Rattle.inner.specs.Next.{nextOf}
 use Rattle.reads.proofs.Holding.{More}
 use Rattle.words.specs.Fronts.{Spans, Said, said}
@@ -31,7 +31,7 @@ use Rattle.demands.specs.ByWords.{endsWith, answerAt, ByWords}
 use Rattle.demands.specs.Refusals.{Ready}
 use Rattle.demands.proofs.Lemmas.Ways.{ready-reads, ready-holds}
 use Rattle.demands.proofs.Lemmas.Keeping.{Sure, after-sure}
-use Rattle.tokens.specs.Types.{Rules}
+use Rattle.types.specs.Types.{Rules}
 
 -- names, the newest first, put in their order before others
 pub onto : List Name → List Name → List Name

@@ -17,17 +17,18 @@ use Rattle.spans.specs.declared.NextFour.the-variants as four
 use Rattle.block.specs.Block.{sound, allInside, allAtEnd, starts, state}
 use Rattle.block.proofs.Laws.{judged-open, sound-open}
 use Rattle.block.specs.Streams.{typeStream, dupStream, diffStream}
-use Rattle.kept.specs.Tables.{Kept, keeping}
+use Rattle.tables.specs.Tables.{Kept, keeping, Table}
 use Rattle.kept.specs.Judgement.{counts, earlierFits}
 use Rattle.kept.proofs.Laws.{counted, fresh-counted, earlier}
-use Rattle.tokens.specs.Types.{Rules}
+use Rattle.types.specs.Types.{Rules}
 use Rattle.sources.specs.Source.{Source, Earlier, source, byteIn, fourIn}
 use Rattle.names.specs.Names.{Draft, Named, named, refused, nameOf}
-use Rattle.heads.specs.declared.Head.{Head}
-use Rattle.heads.specs.declared.Head.the-variants as head
-use Rattle.entries.specs.Outcomes.{plain, atName}
-use Rattle.heads.specs.Heads.{dupFits, diffFits, dupHead, diffHead, typedHead, headOf, headPast}
-use Rattle.entries.specs.Entries.{roomFor, keepOf}
+use Rattle.distances.specs.declared.Head.{Head}
+use Rattle.distances.specs.declared.Head.the-variants as head
+use Rattle.outcomes.specs.Outcomes.{plain, atName}
+use Rattle.distances.specs.Distances.{dupFits, diffFits, dupHead, diffHead}
+use Rattle.heads.specs.Heads.{typedHead, headOf, headPast}
+use Rattle.outcomes.specs.Keeping.{roomFor, keepOf}
 use Rattle.copying.specs.Copies.{dupOf}
 use Rattle.naming.specs.Naming.{namedOf, diffOf}
 use Rattle.earlier.specs.Back.{entryBack}
@@ -36,7 +37,7 @@ use Rattle.reads.specs.Reads.{readOf}
 use Rattle.reads.proofs.Holding.{Holds, next-holds, read-next}
 use Rattle.demands.specs.Refusals.{Back, Ready, is-dup, is-diff, Heads, Rule2, dup-back, diff-none, diff-back, HeadStop, no-type, no-head, no-distance, off-rule, Leans, on-none, on-earlier, Origin, copied, walked, by-head, by-memory, by-token, by-room, unsound, uncounted, outside, unread, unnamed, ReadCase, refuses, ends, keeps, dupIn, diffIn}
 use Rattle.demands.proofs.Lemmas.Stops.{name-stops}
-use Rattle.tokens.proofs.Laws.{dup-not-diff}
+use Rattle.types.proofs.Laws.{dup-not-diff}
 
 -- what position 0 can say of name n
 data HeadCase (s : Source) (n : ℕ) : Head → Type 0 where
@@ -45,7 +46,7 @@ data HeadCase (s : Source) (n : ℕ) : Head → Type 0 where
   diffs : (d : ℕ) → Heads s (diffIn s) diffStream d → Rule2 s n (diffIn s) d → HeadCase s n (head.Diff (record { 0 = d }))
 
 -- a block that has opened is ready to be read, whatever the buffers held
-pub fresh-ready : (rules : Rules) (bytes dir : List ℕ) (count : ℕ) (old text names rows : List ℕ) → sound (length bytes) dir old ≡ true → count ≤ 65536
+pub fresh-ready : (rules : Rules) (bytes dir : List ℕ) (count : ℕ) (old text names : List ℕ) (rows : Table) → sound (length bytes) dir old ≡ true → count ≤ 65536
     → Ready (source rules bytes dir (starts dir)) (keeping (state count 0 0 0) text names rows)
 fresh-ready rules bytes dir count old text names rows s l = record {
   opened = sound-open bytes dir old s;

@@ -3,13 +3,14 @@ use denote.Ref.{now}
 use borrow.Author.Needs.{needs}
 use Rattle.dupdiff.proofs.diff.Statement.{statement}
 use Rattle.dupdiff.proofs.diff.Tie as tie
-use Rattle.tokens.specs.Types.{rulesOf}
+use Rattle.types.specs.Types.{rulesOf}
+use Rattle.tables.specs.Tables.{inRows}
 
 leans-requires : tie.Need-leans-requires
 leans-requires c κs =
     let z : tie.Start = search in
     let a = z .args in
-    ((z .pre .1 .0 .entries, z .pre .1 .0 .rowsUsed), (z .pre .1 .1 .0 .near, all-fit (a .state) (now (a .text)) (now (a .entries)) (now (a .rows)) (z .pre .1 .1 .1)))
+    ((z .pre .1 .0 .entries, z .pre .1 .0 .rowsUsed), (z .pre .1 .1 .0 .near, all-fit (a .state) (now (a .text)) (now (a .entries)) (inRows (now (a .rows))) (z .pre .1 .1 .1)))
 
 enum-known-first : tie.Need-enum-known-first
 enum-known-first c = search needs
@@ -20,7 +21,7 @@ named-requires c κs =
     let at-leans : tie.After-leans = search in
     let z : tie.Start = search in
     let a = z .args in
-    let l = leant-rows (rulesOf (a .set)) (now (a .bytes)) (now (a .dir)) (now (a .cursors)) (now (a .text)) (now (a .entries)) (now (a .rows)) (a .state) (a .distance .0) (at-leans .leans .ensures) (z .pre .1 .0) (z .pre .1 .1 .0 .near) (z .pre .1 .1 .1) (at-first .first .given .1) in
+    let l = leant-rows (rulesOf (a .set)) (now (a .bytes)) (now (a .dir)) (now (a .cursors)) (now (a .text)) (now (a .entries)) (inRows (now (a .rows))) (a .state) (a .distance .0) (at-leans .leans .ensures) (z .pre .1 .0) (z .pre .1 .1 .0 .near) (z .pre .1 .1 .1) (at-first .first .given .1) in
     (z .pre .0, (z .pre .1 .0, (l .0, (z .pre .1 .1 .0, l .1))))
 
 enum-told : tie.Need-enum-told
@@ -48,7 +49,7 @@ returns c =
     let at-leans : tie.After-leans = search in
     let z : tie.Start = search in
     let a = z .args in
-    diff-over (rulesOf (a .set)) (now (a .bytes)) (now (a .dir)) (now (a .cursors)) (now (a .text)) (now (a .entries)) (now (a .rows)) (a .state) (a .distance .0) (at-leans .leans .ensures) (at-first .first .given .1) (at-named .named .ensures)
+    diff-over (rulesOf (a .set)) (now (a .bytes)) (now (a .dir)) (now (a .cursors)) (now (a .text)) (now (a .entries)) (inRows (now (a .rows))) (a .state) (a .distance .0) (at-leans .leans .ensures) (at-first .first .given .1) (at-named .named .ensures)
 
 same-length-5 : tie.Need-same-length-5
 same-length-5 c = search needs
@@ -61,7 +62,7 @@ returns-2 c =
     let at-leans : tie.After-leans = search in
     let z : tie.Start = search in
     let a = z .args in
-    diff-outside (rulesOf (a .set)) (now (a .bytes)) (now (a .dir)) (now (a .cursors)) (now (a .text)) (now (a .entries)) (now (a .rows)) (a .state) (a .distance .0) (at-leans .leans .ensures) (c .before .enum-told .given .1) (c .refuse .ensures)
+    diff-outside (rulesOf (a .set)) (now (a .bytes)) (now (a .dir)) (now (a .cursors)) (now (a .text)) (now (a .entries)) (inRows (now (a .rows))) (a .state) (a .distance .0) (at-leans .leans .ensures) (c .before .enum-told .given .1) (c .refuse .ensures)
 
 pub diff-spec : {M : Type 1} → statement M
 diff-spec =

@@ -3,13 +3,14 @@ use denote.Ref.{now}
 use native.Mathlib.Omega.{arith}
 use borrow.Author.Needs.{needs}
 use Rattle.earlier.proofs.leans.Statement.{statement}
+use Rattle.tables.specs.Tables.{inRows}
 use Rattle.earlier.proofs.leans.Tie as tie
 
 returns : tie.Need-returns
 returns c =
     let z : tie.Start = search in
     let a = z .args in
-    leans-none (a .state) (now (a .entries)) (now (a .rows)) (a .distance .0) (omega (arith, c .if1 .taken))
+    leans-none (a .state) (now (a .entries)) (inRows (now (a .rows))) (a .distance .0) (omega (arith, c .if1 .taken))
 
 sub-back : tie.Need-sub-back
 sub-back c = search needs
@@ -29,14 +30,14 @@ returns-2 c =
     let at-else1 : tie.Else1 = search in
     let z : tie.Start = search in
     let a = z .args in
-    leans-fit (a .state) (now (a .entries)) (now (a .rows)) (a .distance .0) (at-else1 .if1 .left) (c .before .before .fits-back .ensures) (omega arith) (c .before .if2 .taken) (c .entry-at .ensures)
+    leans-fit (a .state) (now (a .entries)) (inRows (now (a .rows))) (a .distance .0) (at-else1 .if1 .left) (c .before .before .fits-back .ensures) (omega arith) (c .before .if2 .taken) (c .entry-at .ensures)
 
 returns-3 : tie.Need-returns-3
 returns-3 c =
     let at-else1 : tie.Else1 = search in
     let z : tie.Start = search in
     let a = z .args in
-    leans-outside (a .state) (now (a .entries)) (now (a .rows)) (a .distance .0) (at-else1 .if1 .left) (c .before .fits-back .ensures) (omega arith) (c .if2 .left)
+    leans-outside (a .state) (now (a .entries)) (inRows (now (a .rows))) (a .distance .0) (at-else1 .if1 .left) (c .before .fits-back .ensures) (omega arith) (c .if2 .left)
 
 pub leans-spec : {M : Type 1} → statement M
 leans-spec =

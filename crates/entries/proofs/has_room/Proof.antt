@@ -1,4 +1,4 @@
-use Rattle.kept.specs.Tables.{entrySize, rowSize, room}
+use Rattle.tables.specs.Tables.{entrySize, room}
 use Rattle.base.proofs.Choice.{took, left}
 use Rattle.entries.proofs.Entries.{room-test}
 use borrow.Author.Tests.{le-leb, lt-leb}
@@ -58,7 +58,7 @@ returns-3 c =
     let at-start : tie.Start = search in
     let a = at-start .args in
     took _ _ (le-leb (a .state .text + a .bytes + 1) (length (now (a .text))) (omega (arith, at-else1 .if1 .left)))
-    (took _ _ (le-leb (a .state .names + 1) (room entrySize (now (a .entries))) (omega (arith, c .before .if2 .left))) (room-test rowSize (omega arith) (now (a .rows)) (a .state .rows + a .added)))
+    (took _ _ (le-leb (a .state .names + 1) (room entrySize (now (a .entries))) (omega (arith, c .before .if2 .left))) (room-test (now (a .rows)) (a .state .rows + a .added)))
 
 pub has-room-spec : {M : Type 1} → statement M
 has-room-spec =

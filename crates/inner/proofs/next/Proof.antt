@@ -7,7 +7,8 @@ use mathlib.Core.Path.{sym, _∙_}
 use borrow.Author.Needs.{needs}
 use Rattle.inner.proofs.next.Statement.{statement}
 use Rattle.inner.proofs.next.Tie as tie
-use Rattle.tokens.specs.Types.{rulesOf}
+use Rattle.types.specs.Types.{rulesOf}
+use Rattle.tables.specs.Tables.{inRows}
 
 abbrev to-start : tie.Else1 → tie.Start
 to-start s = search
@@ -22,7 +23,7 @@ returns : tie.Need-returns
 returns c =
     let z : tie.Start = search in
     let a = z .args in
-    next-finished (rulesOf (a .set)) (now (a .bytes)) (now (a .dir)) (now (a .cursors)) (now (a .text)) (now (a .entries)) (now (a .rows)) (a .state) (c .before .before .if1 .taken) (c .finish .ensures)
+    next-finished (rulesOf (a .set)) (now (a .bytes)) (now (a .dir)) (now (a .cursors)) (now (a .text)) (now (a .entries)) (inRows (now (a .rows))) (a .state) (c .before .before .if1 .taken) (c .finish .ensures)
 
 head-requires : tie.Need-head-requires
 head-requires c κs = search needs
@@ -77,7 +78,7 @@ returns-2 c =
     let at-else1 : tie.Else1 = search in
     let z = to-start at-else1 in
     let a = z .args in
-    next-dup (rulesOf (a .set)) (now (a .bytes)) (now (a .dir)) (now (a .cursors)) (now (a .text)) (now (a .entries)) (now (a .rows)) (a .state) (at-else1 .if1 .left) _ (at-head .head .ensures) (at-d .d .given .1) (at-dup .dup .ensures (rulesOf (a .set)) (now (a .bytes)) (now (a .dir)))
+    next-dup (rulesOf (a .set)) (now (a .bytes)) (now (a .dir)) (now (a .cursors)) (now (a .text)) (now (a .entries)) (inRows (now (a .rows))) (a .state) (at-else1 .if1 .left) _ (at-head .head .ensures) (at-d .d .given .1) (at-dup .dup .ensures (rulesOf (a .set)) (now (a .bytes)) (now (a .dir)))
 
 same-length-6 : tie.Need-same-length-6
 same-length-6 c = search needs
@@ -99,7 +100,7 @@ returns-3 c =
     let at-else1 : tie.Else1 = search in
     let z = to-start at-else1 in
     let a = z .args in
-    next-diff (rulesOf (a .set)) (now (a .bytes)) (now (a .dir)) (now (a .cursors)) (now (a .text)) (now (a .entries)) (now (a .rows)) (a .state) (at-else1 .if1 .left) _ (at-head .head .ensures) (at-d2 .d2 .given .1) (at-diff .diff .ensures)
+    next-diff (rulesOf (a .set)) (now (a .bytes)) (now (a .dir)) (now (a .cursors)) (now (a .text)) (now (a .entries)) (inRows (now (a .rows))) (a .state) (at-else1 .if1 .left) _ (at-head .head .ensures) (at-d2 .d2 .given .1) (at-diff .diff .ensures)
 
 same-length-10 : tie.Need-same-length-10
 same-length-10 c = search needs
@@ -110,7 +111,7 @@ returns-4 c =
     let at-else1 : tie.Else1 = search in
     let z : tie.Start = search in
     let a = z .args in
-    next-refused (rulesOf (a .set)) (now (a .bytes)) (now (a .dir)) (now (a .cursors)) (now (a .text)) (now (a .entries)) (now (a .rows)) (a .state) (at-else1 .if1 .left) _ (at-head .head .ensures) (c .before .before .r .given .1) (c .refuse .ensures)
+    next-refused (rulesOf (a .set)) (now (a .bytes)) (now (a .dir)) (now (a .cursors)) (now (a .text)) (now (a .entries)) (inRows (now (a .rows))) (a .state) (at-else1 .if1 .left) _ (at-head .head .ensures) (c .before .before .r .given .1) (c .refuse .ensures)
 
 pub next-spec : {M : Type 1} → statement M
 next-spec =

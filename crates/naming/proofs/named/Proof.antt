@@ -1,28 +1,34 @@
 use Rattle.naming.proofs.Walking.{Starts, starts, known-as, walks-less, walk-asks, walk-refused, walk-full, head-asks, walk-on, entry-asks, walk-kept}
 use Rattle.base.specs.Choice.{pick}
-use Rattle.tokens.specs.Types.{rulesOf}
+use Rattle.tables.specs.Tables.{inRows}
+use Rattle.types.specs.Types.{rulesOf}
 use native.Mathlib.Omega.{arith}
 use mathlib.Core.Bool.{true}
-use mathlib.Core.Path.{_≡_, sym, _∙_}
+use mathlib.Core.Path.{_≡_, refl, sym, _∙_}
+use lib.ListN.{length}
 use borrow.Author.Needs.{needs}
 use Rattle.naming.proofs.named.Statement.{statement}
 use Rattle.naming.proofs.named.Tie as tie
 
 abbrev Inv-loop : tie.InvT-loop
 Inv-loop set known bytes dir cursors₀ text₀ entries₀ rows₀ state distance first count keeping₀ cursors text entries rows keeping =
-    Starts (rulesOf set) bytes dir cursors₀ text₀ entries₀ rows₀ state (distance .0) first count keeping cursors text entries rows
+    Starts (rulesOf set) bytes dir cursors₀ text₀ entries₀ (inRows rows₀) state (distance .0) first count keeping cursors text entries (inRows rows)
+    × (length rows ≡ length rows₀)
 
 abbrev μ-loop : tie.MeasureT-loop
 μ-loop set known bytes dir cursors₀ text₀ entries₀ rows₀ state distance first count keeping₀ cursors text entries rows keeping = pick keeping 0 1
 
+abbrev to-start : tie.At-loop Inv-loop μ-loop → tie.Start Inv-loop μ-loop
+to-start h = search
+
 loop-holds : tie.Need-loop-holds Inv-loop μ-loop
-loop-holds c = starts _ _ _ _ _ _ _ _ _ _ _ (search needs)
+loop-holds c = (starts _ _ _ _ _ _ _ _ _ _ _ (search needs), refl)
 
 walk-requires : tie.Need-walk-requires Inv-loop μ-loop
 walk-requires c κs =
     let h : tie.At-loop Inv-loop μ-loop = search in
     let z : tie.Start Inv-loop μ-loop = search in
-    walk-asks _ _ _ _ _ _ _ _ _ _ _ (z .pre .0) (z .pre .1 .0) (z .pre .1 .1 .0) (z .pre .1 .1 .1 .0) _ (known-as _ (search needs) (z .pre .1 .1 .1 .1)) _ (h .loop .inv)
+    walk-asks _ _ _ _ _ _ _ _ _ _ _ (z .pre .0) (z .pre .1 .0) (z .pre .1 .1 .0) (z .pre .1 .1 .1 .0) _ (known-as _ (search needs) (z .pre .1 .1 .1 .1)) _ (h .loop .inv .0)
 
 enum-known-r : tie.Need-enum-known-r Inv-loop μ-loop
 enum-known-r c = search needs
@@ -47,7 +53,7 @@ returns c =
     let w : tie.After-walk Inv-loop μ-loop = search in
     let h : tie.At-loop Inv-loop μ-loop = search in
     let z : tie.Start Inv-loop μ-loop = search in
-    walk-refused _ _ _ _ _ _ _ _ _ _ _ (z .pre .0) (z .pre .1 .0) (z .pre .1 .1 .0) (z .pre .1 .1 .1 .0) _ _ _ _ _ (h .loop .inv) _ _ _ _ (w .walk .ensures .0) (w .walk .ensures .1) _ (c .before .before .r .given .1) (c .refuse .ensures)
+    walk-refused _ _ _ _ _ _ _ _ _ _ _ (z .pre .0) (z .pre .1 .0) (z .pre .1 .1 .0) (z .pre .1 .1 .1 .0) _ _ _ _ _ (h .loop .inv .0) _ _ _ _ (w .walk .ensures .0) (w .walk .ensures .1) _ (c .before .before .r .given .1) (c .refuse .ensures)
 
 enum-known-added : tie.Need-enum-known-added Inv-loop μ-loop
 enum-known-added c = search needs
@@ -59,7 +65,7 @@ enter-requires c κs =
     let h : tie.At-loop Inv-loop μ-loop = search in
     let z : tie.Start Inv-loop μ-loop = search in
     let y : h .loop .keeping ≡ true = search needs in
-    entry-asks _ _ _ _ _ _ _ _ _ _ _ (z .pre .0) (z .pre .1 .0) (z .pre .1 .1 .0) (z .pre .1 .1 .1 .0) _ _ _ _ _ (h .loop .inv) _ _ _ _ (w .walk .ensures .0) (w .walk .ensures .1) _ _ (at-added .added .given .1) y
+    entry-asks _ _ _ _ _ _ _ _ _ _ _ (z .pre .0) (z .pre .1 .0) (z .pre .1 .1 .0) (z .pre .1 .1 .1 .0) _ _ _ _ _ (h .loop .inv .0) _ _ _ _ (w .walk .ensures .0) (w .walk .ensures .1) _ _ (at-added .added .given .1) y
 
 same-length-5 : tie.Need-same-length-5 Inv-loop μ-loop
 same-length-5 c = search needs
@@ -80,7 +86,7 @@ returns-2 c =
     let w : tie.After-walk Inv-loop μ-loop = search in
     let h : tie.At-loop Inv-loop μ-loop = search in
     let z : tie.Start Inv-loop μ-loop = search in
-    walk-kept _ _ _ _ _ _ _ _ _ _ _ (z .pre .0) (z .pre .1 .0) (z .pre .1 .1 .0) (z .pre .1 .1 .1 .0) _ _ _ _ _ (h .loop .inv) _ _ _ _ (w .walk .ensures .0) (w .walk .ensures .1) _ _ (at-added .added .given .1) (at-then1 .if1 .taken) (c .before .before .enter .ensures .0) (c .before .before .enter .ensures .1)
+    walk-kept _ _ _ _ _ _ _ _ _ _ _ (z .pre .0) (z .pre .1 .0) (z .pre .1 .1 .0) (z .pre .1 .1 .1 .0) _ _ _ _ _ (h .loop .inv .0) _ _ _ _ (w .walk .ensures .0) (w .walk .ensures .1) _ _ (at-added .added .given .1) (at-then1 .if1 .taken) (c .before .before .enter .ensures .0) (c .before .before .enter .ensures .1)
 
 has-room-requires : tie.Need-has-room-requires Inv-loop μ-loop
 has-room-requires c κs = search needs
@@ -93,7 +99,7 @@ move-head-requires c κs =
     let h : tie.At-loop Inv-loop μ-loop = search in
     let at-shared-slice-known2 : tie.After-shared-slice-known2 Inv-loop μ-loop = search in
     let z : tie.Start Inv-loop μ-loop = search in
-    head-asks _ _ _ _ _ _ _ _ _ _ _ (z .pre .0) (z .pre .1 .0) (z .pre .1 .1 .0) (z .pre .1 .1 .1 .0) _ _ _ _ _ (h .loop .inv) _ _ _ _ (w .walk .ensures .0) (w .walk .ensures .1) _ _ (at-added .added .given .1) (at-else1 .if1 .left) (λ i. omega (arith, at-shared-slice-known2 .shared-slice-known2 .given i))
+    head-asks _ _ _ _ _ _ _ _ _ _ _ (z .pre .0) (z .pre .1 .0) (z .pre .1 .1 .0) (z .pre .1 .1 .1 .0) _ _ _ _ _ (h .loop .inv .0) _ _ _ _ (w .walk .ensures .0) (w .walk .ensures .1) _ _ (at-added .added .given .1) (at-else1 .if1 .left) (λ i. omega (arith, at-shared-slice-known2 .shared-slice-known2 .given i))
 
 loop-less : tie.Need-loop-less Inv-loop μ-loop
 loop-less c =
@@ -108,8 +114,8 @@ loop-again c =
     let at-added : tie.After-added Inv-loop μ-loop = search in
     let w : tie.After-walk Inv-loop μ-loop = search in
     let h : tie.At-loop Inv-loop μ-loop = search in
-    let z : tie.Start Inv-loop μ-loop = search in
-    walk-on _ _ _ _ _ _ _ _ _ _ _ (z .pre .0) (z .pre .1 .0) (z .pre .1 .1 .0) (z .pre .1 .1 .1 .0) _ _ _ _ _ (h .loop .inv) _ _ _ _ (w .walk .ensures .0) (w .walk .ensures .1) _ _ (at-added .added .given .1) (at-else1 .if1 .left) (sym (at-has-room .has-room .ensures) ∙ at-then2 .if2 .taken) (c .before .before .move-head .ensures)
+    let z = to-start h in
+    (walk-on _ _ _ _ _ _ _ _ _ _ _ (z .pre .0) (z .pre .1 .0) (z .pre .1 .1 .0) (z .pre .1 .1 .1 .0) _ _ _ _ _ (h .loop .inv .0) _ _ _ _ (w .walk .ensures .0) (w .walk .ensures .1) _ _ (at-added .added .given .1) (at-else1 .if1 .left) (sym (at-has-room .has-room .ensures) ∙ at-then2 .if2 .taken) (c .before .before .move-head .ensures), search needs)
 
 refuse-requires-2 : tie.Need-refuse-requires-2 Inv-loop μ-loop
 refuse-requires-2 c κs = search needs
@@ -133,7 +139,7 @@ returns-3 c =
     let w : tie.After-walk Inv-loop μ-loop = search in
     let h : tie.At-loop Inv-loop μ-loop = search in
     let z : tie.Start Inv-loop μ-loop = search in
-    walk-full _ _ _ _ _ _ _ _ _ _ _ (z .pre .0) (z .pre .1 .0) (z .pre .1 .1 .0) (z .pre .1 .1 .1 .0) _ _ _ _ _ (h .loop .inv) _ _ _ _ (w .walk .ensures .0) (w .walk .ensures .1) _ _ (at-added .added .given .1) (at-else1 .if1 .left) (sym (c .before .before .has-room .ensures) ∙ c .before .if2 .left) (c .refuse2 .ensures)
+    walk-full _ _ _ _ _ _ _ _ _ _ _ (z .pre .0) (z .pre .1 .0) (z .pre .1 .1 .0) (z .pre .1 .1 .1 .0) _ _ _ _ _ (h .loop .inv .0) _ _ _ _ (w .walk .ensures .0) (w .walk .ensures .1) _ _ (at-added .added .given .1) (at-else1 .if1 .left) (sym (c .before .before .has-room .ensures) ∙ c .before .if2 .left) (c .refuse2 .ensures)
 
 pub named-spec : {M : Type 1} → statement M
 named-spec =

@@ -1,5 +1,5 @@
 use mathlib.Core.Path.{_∙_}
-use Rattle.calls.proofs.Laws.{read-call, read-state}
+use Rattle.readcalls.proofs.Laws.{read-call, read-state}
 use borrow.Author.Needs.{needs}
 use Rattle.readcalls.proofs.read.Statement.{statement}
 use Rattle.readcalls.proofs.read.Tie as tie

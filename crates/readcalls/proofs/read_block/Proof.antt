@@ -1,5 +1,5 @@
 use mathlib.Core.Path.{_∙_}
-use Rattle.calls.proofs.Laws.{read-call, block-state}
+use Rattle.readcalls.proofs.Laws.{read-call, block-state}
 use borrow.Author.Needs.{needs}
 use Rattle.readcalls.proofs.read_block.Statement.{statement}
 use Rattle.readcalls.proofs.read_block.Tie as tie

@@ -5,7 +5,8 @@ use mathlib.Core.Path.{refl, sym, _∙_}
 use borrow.Author.Needs.{needs}
 use Rattle.reading.proofs.read.Statement.{statement}
 use Rattle.reading.proofs.read.Tie as tie
-use Rattle.tokens.specs.Types.{rulesOf}
+use Rattle.types.specs.Types.{rulesOf}
+use Rattle.tables.specs.Tables.{inRows}
 
 abbrev to-start : tie.After-enum-told3 → tie.Start
 to-start s = search
@@ -38,7 +39,7 @@ reads-requires c κs =
     let at-start : tie.Start = search in
     let a = at-start .args in
     let v = sym (j .before .before .judge .ensures) ∙ j .enum-told3 .given .1 in
-    let q = read-judged (rulesOf (a .set)) (now (a .bytes)) (now (a .dir)) (now (a .cursors)) (now (a .text)) (now (a .entries)) (now (a .rows)) (a .state) v (sym (f .before .counts .ensures) ∙ f .if1 .taken) in
+    let q = read-judged (rulesOf (a .set)) (now (a .bytes)) (now (a .dir)) (now (a .cursors)) (now (a .text)) (now (a .entries)) (inRows (now (a .rows))) (a .state) v (sym (f .before .counts .ensures) ∙ f .if1 .taken) in
     (q .0, (q .1, unknown _ (search needs)))
 
 refuse-plain-requires-3 : tie.Need-refuse-plain-requires-3
@@ -52,7 +53,7 @@ returns c =
     let j : tie.After-enum-told = search in
     let at-start : tie.Start = search in
     let a = at-start .args in
-    read-unsound (rulesOf (a .set)) (now (a .bytes)) (now (a .dir)) (now (a .cursors)) (now (a .text)) (now (a .entries)) (now (a .rows)) (a .state) (sym (j .before .before .judge .ensures) ∙ j .enum-told .given .1) (c .refuse-plain .ensures)
+    read-unsound (rulesOf (a .set)) (now (a .bytes)) (now (a .dir)) (now (a .cursors)) (now (a .text)) (now (a .entries)) (inRows (now (a .rows))) (a .state) (sym (j .before .before .judge .ensures) ∙ j .enum-told .given .1) (c .refuse-plain .ensures)
 
 same-length-2 : tie.Need-same-length-2
 same-length-2 c = search needs
@@ -62,7 +63,7 @@ returns-2 c =
     let j : tie.After-enum-told2 = search in
     let at-start : tie.Start = search in
     let a = at-start .args in
-    read-outside (rulesOf (a .set)) (now (a .bytes)) (now (a .dir)) (now (a .cursors)) (now (a .text)) (now (a .entries)) (now (a .rows)) (a .state) (sym (j .before .before .judge .ensures) ∙ j .enum-told2 .given .1) (c .refuse-plain2 .ensures)
+    read-outside (rulesOf (a .set)) (now (a .bytes)) (now (a .dir)) (now (a .cursors)) (now (a .text)) (now (a .entries)) (inRows (now (a .rows))) (a .state) (sym (j .before .before .judge .ensures) ∙ j .enum-told2 .given .1) (c .refuse-plain2 .ensures)
 
 same-length-3 : tie.Need-same-length-3
 same-length-3 c = search needs
@@ -84,7 +85,7 @@ returns-3 c =
     let at-start = to-start j in
     let a = at-start .args in
     let v = sym (j .before .before .judge .ensures) ∙ j .enum-told3 .given .1 in
-    read-is (rulesOf (a .set)) (now (a .bytes)) (now (a .dir)) (now (a .cursors)) (now (a .text)) (now (a .entries)) (now (a .rows)) (a .state) v (sym (f .before .counts .ensures) ∙ f .if1 .taken) (at-reads .reads .ensures ∙ pick-false _ _ refl)
+    read-is (rulesOf (a .set)) (now (a .bytes)) (now (a .dir)) (now (a .cursors)) (now (a .text)) (now (a .entries)) (inRows (now (a .rows))) (a .state) v (sym (f .before .counts .ensures) ∙ f .if1 .taken) (at-reads .reads .ensures ∙ pick-false _ _ refl)
 
 same-length-7 : tie.Need-same-length-7
 same-length-7 c = search needs
@@ -105,7 +106,7 @@ returns-4 c =
     let at-start : tie.Start = search in
     let a = at-start .args in
     let v = sym (j .before .before .judge .ensures) ∙ j .enum-told3 .given .1 in
-    read-miscounted (rulesOf (a .set)) (now (a .bytes)) (now (a .dir)) (now (a .cursors)) (now (a .text)) (now (a .entries)) (now (a .rows)) (a .state) v (sym (f .before .counts .ensures) ∙ f .if1 .left) (c .refuse-plain3 .ensures)
+    read-miscounted (rulesOf (a .set)) (now (a .bytes)) (now (a .dir)) (now (a .cursors)) (now (a .text)) (now (a .entries)) (inRows (now (a .rows))) (a .state) v (sym (f .before .counts .ensures) ∙ f .if1 .left) (c .refuse-plain3 .ensures)
 
 pub read-spec : {M : Type 1} → statement M
 read-spec =

@@ -5,7 +5,8 @@ use denote.Ref.{now}
 use borrow.Author.Needs.{needs}
 use Rattle.reading.proofs.read_block.Statement.{statement}
 use Rattle.reading.proofs.read_block.Tie as tie
-use Rattle.tokens.specs.Types.{rulesOf}
+use Rattle.types.specs.Types.{rulesOf}
+use Rattle.tables.specs.Tables.{inRows}
 
 open-requires : tie.Need-open-requires
 open-requires c κs = search needs
@@ -19,7 +20,7 @@ reads-requires c κs =
     let at-open : tie.After-open = search in
     let z : tie.Start = search in
     let a = z .args in
-    block-starts (rulesOf (a .set)) (now (a .bytes)) (now (a .dir)) (now (a .cursors)) (now (a .text)) (now (a .entries)) (now (a .rows)) (a .state) (a .count) (at-open .«open» .ensures) (at-start .start .given .1)
+    block-starts (rulesOf (a .set)) (now (a .bytes)) (now (a .dir)) (now (a .cursors)) (now (a .text)) (now (a .entries)) (inRows (now (a .rows))) (a .state) (a .count) (at-open .«open» .ensures) (at-start .start .given .1)
 
 enum-known-r : tie.Need-enum-known-r
 enum-known-r c = search needs
@@ -43,7 +44,7 @@ returns c =
     let at-open : tie.After-open = search in
     let z : tie.Start = search in
     let a = z .args in
-    block-is (rulesOf (a .set)) (now (a .bytes)) (now (a .dir)) (now (a .cursors)) (now (a .text)) (now (a .entries)) (now (a .rows)) (a .state) (a .count) (at-open .«open» .ensures) (at-start .start .given .1) (at-reads .reads .ensures ∙ pick-true _ _ refl)
+    block-is (rulesOf (a .set)) (now (a .bytes)) (now (a .dir)) (now (a .cursors)) (now (a .text)) (now (a .entries)) (inRows (now (a .rows))) (a .state) (a .count) (at-open .«open» .ensures) (at-start .start .given .1) (at-reads .reads .ensures ∙ pick-true _ _ refl)
 
 same-length-5 : tie.Need-same-length-5
 same-length-5 c = search needs
@@ -53,7 +54,7 @@ returns-2 c =
     let at-open : tie.After-open = search in
     let z : tie.Start = search in
     let a = z .args in
-    block-refused (rulesOf (a .set)) (now (a .bytes)) (now (a .dir)) (now (a .cursors)) (now (a .text)) (now (a .entries)) (now (a .rows)) (a .state) (a .count) (at-open .«open» .ensures) (c .before .r .given .1)
+    block-refused (rulesOf (a .set)) (now (a .bytes)) (now (a .dir)) (now (a .cursors)) (now (a .text)) (now (a .entries)) (inRows (now (a .rows))) (a .state) (a .count) (at-open .«open» .ensures) (c .before .r .given .1)
 
 pub read-block-spec : {M : Type 1} → statement M
 read-block-spec =

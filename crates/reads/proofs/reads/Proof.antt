@@ -1,10 +1,10 @@
 use Rattle.reads.proofs.Loops.{Reads, reads-less, reads-on, reads-out}
 use Rattle.base.specs.Choice.{pick}
-use Rattle.tokens.specs.Types.{rulesOf}
+use Rattle.types.specs.Types.{rulesOf}
 use Rattle.sources.specs.Source.{source}
 use Rattle.inner.specs.Next.{nextOf}
 use Rattle.reads.specs.Reads.{fresh, readsFrom}
-use Rattle.kept.specs.Tables.{keeping}
+use Rattle.tables.specs.Tables.{keeping, inRows}
 use lib.ListN.{length}
 use borrow.Author.Needs.{needs}
 use Prim.Native.Nat.{_+_, _-_}
@@ -15,8 +15,8 @@ use Rattle.reads.proofs.reads.Tie as tie
 abbrev Inv-loop : tie.InvT-loop
 Inv-loop set whole bytes dir cursors₀ text₀ entries₀ rows₀ so-far₀ cursors text entries rows so-far =
     Reads (rulesOf set) bytes dir whole
-    (pick whole (readsFrom (rulesOf set) bytes dir (so-far₀ .count - so-far₀ .names + 1) (fresh cursors₀ (keeping so-far₀ text₀ entries₀ rows₀))) (nextOf (source (rulesOf set) bytes dir cursors₀) (keeping so-far₀ text₀ entries₀ rows₀)))
-    cursors (keeping so-far text entries rows)
+    (pick whole (readsFrom (rulesOf set) bytes dir (so-far₀ .count - so-far₀ .names + 1) (fresh cursors₀ (keeping so-far₀ text₀ entries₀ (inRows rows₀)))) (nextOf (source (rulesOf set) bytes dir cursors₀) (keeping so-far₀ text₀ entries₀ (inRows rows₀))))
+    cursors (keeping so-far text entries (inRows rows))
     × ((length text ≡ length text₀) × ((length entries ≡ length entries₀) × (length rows ≡ length rows₀)))
 
 abbrev μ-loop : tie.MeasureT-loop

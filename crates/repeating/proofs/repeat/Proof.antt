@@ -3,18 +3,18 @@ use native.Mathlib.Omega.{arith}
 use Prim.Native.Nat.{_+_, _-_, _≤_}
 use mathlib.Core.Path.{_≡_}
 use denote.Ref.{now}
-use Rattle.kept.specs.declared.Row.{Row}
-use Rattle.kept.specs.Tables.{rowAt}
+use Rattle.tables.specs.declared.Row.{Row}
+use Rattle.tables.specs.Tables.{inRows, rowAt}
 use Rattle.repeating.proofs.Repeating.{repeat-ends, repeat-laid, repeat-fits, repeat-put}
 use Rattle.repeating.proofs.repeat.Statement.{statement}
 use Rattle.repeating.proofs.repeat.Tie as tie
 
 -- the run's text ends below the place that it is copied to
-ends : (p : tie.Start) {r : Row} → r ≡ rowAt (now (p .args .rows)) (p .args .first + (p .args .p .0 - 1)) → r .start + p .args .w ≤ p .args .at
+ends : (p : tie.Start) {r : Row} → r ≡ rowAt (inRows (now (p .args .rows))) (p .args .first + (p .args .p .0 - 1)) → r .start + p .args .w ≤ p .args .at
 ends p e =
     let a = p .args in
     rw e
-    (repeat-ends (now (a .text)) (now (a .rows)) (a .first) (a .p .0) (a .q .0) (a .w) (a .at) (p .pre .1 .1 .0) (p .pre .1 .1 .1 .0) (omega (arith, p .pre .0)) (omega (arith, p .pre .0)) (p .pre .1 .1 .1 .1 .0))
+    (repeat-ends (now (a .text)) (inRows (now (a .rows))) (a .first) (a .p .0) (a .q .0) (a .w) (a .at) (p .pre .1 .1 .0) (p .pre .1 .1 .1 .0) (omega (arith, p .pre .0)) (omega (arith, p .pre .0)) (p .pre .1 .1 .1 .1 .0))
 
 sub-from : tie.Need-sub-from
 sub-from c = search needs
@@ -68,8 +68,8 @@ copy-rows-requires c κs =
     let a = p .args in let r = p .pre .1 .1 .1 .1 .1 .1 in let z = p .pre .0 .1 in (
       (omega arith, (omega (arith, r .0), omega (arith, r .1 .1))),
       (
-        repeat-laid (now (a .text)) (now (a .rows)) (a .first) (a .p .0) (a .q .0) (a .w) (a .at) (p .pre .1 .1 .0) (p .pre .1 .1 .1 .0) (omega arith) (omega arith) (p .pre .1 .1 .1 .1 .0),
-        repeat-fits (now (a .text)) (now (a .rows)) (a .first) (a .p .0) (a .q .0) (a .w) (a .at) (p .pre .1 .1 .0) (p .pre .1 .1 .1 .0) (omega arith) (omega arith) (p .pre .1 .1 .1 .1 .0) (p .pre .1 .1 .1 .1 .1 .0 .1),
+        repeat-laid (now (a .text)) (inRows (now (a .rows))) (a .first) (a .p .0) (a .q .0) (a .w) (a .at) (p .pre .1 .1 .0) (p .pre .1 .1 .1 .0) (omega arith) (omega arith) (p .pre .1 .1 .1 .1 .0),
+        repeat-fits (now (a .text)) (inRows (now (a .rows))) (a .first) (a .p .0) (a .q .0) (a .w) (a .at) (p .pre .1 .1 .0) (p .pre .1 .1 .1 .0) (omega arith) (omega arith) (p .pre .1 .1 .1 .1 .0) (p .pre .1 .1 .1 .1 .1 .0 .1),
       ),
     )
 
@@ -92,7 +92,7 @@ returns c =
     let at-row-in : tie.After-row-in = search in
     let p : tie.Start = search in
     let a = p .args in let z = p .pre .0 .1 in
-    repeat-put (now (a .text)) (now (a .rows)) (now (a .cursors)) (a .first + (a .p .0 - 1)) (a .first + (a .q .0 - 1) - (a .first + (a .p .0 - 1))) (a .q .0 - a .p .0) (a .w) (a .at) (a .row + (a .p .0 - 1)) (a .p .0) (a .q .0)
+    repeat-put (now (a .text)) (inRows (now (a .rows))) (now (a .cursors)) (a .first + (a .p .0 - 1)) (a .first + (a .q .0 - 1) - (a .first + (a .p .0 - 1))) (a .q .0 - a .p .0) (a .w) (a .at) (a .row + (a .p .0 - 1)) (a .p .0) (a .q .0)
     (omega arith) (at-row-in .row-in .ensures) (at-copy-within .copy-within .ensures) (at-copy-rows .copy-rows .ensures) (c .before .before .move-types .ensures)
 
 pub repeat-spec : {M : Type 1} → statement M

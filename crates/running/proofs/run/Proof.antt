@@ -8,7 +8,8 @@ use Rattle.names.specs.Keeps.{Memory, memory}
 use Rattle.running.proofs.Runs.{run-few, run-spelt, run-moves, length-asks, fewer-spelt, fewer-rows, ran-none, ran-long, ran-on, puts-none, puts-long, puts-not, puts-run}
 use Rattle.running.proofs.run.Statement.{statement}
 use Rattle.running.proofs.run.Tie as tie
-use Rattle.tokens.specs.Types.{rulesOf}
+use Rattle.types.specs.Types.{rulesOf}
+use Rattle.tables.specs.Tables.{inRows}
 
 abbrev to-start : tie.After-run-end → tie.Start
 to-start s = search
@@ -18,10 +19,10 @@ abbrev src : tie.Start → Source
 src p = let a = p .args in source (rulesOf (a .set)) (now (a .bytes)) (now (a .dir)) (now (a .cursors))
 
 abbrev back : tie.Start → Earlier
-back p = let a = p .args in earlier (now (a .text)) (now (a .rows)) (a .first) (a .count)
+back p = let a = p .args in earlier (now (a .text)) (inRows (now (a .rows))) (a .first) (a .count)
 
 abbrev mem : tie.Start → Memory
-mem p = let a = p .args in memory (now (a .text)) (now (a .rows)) (now (a .cursors))
+mem p = let a = p .args in memory (now (a .text)) (inRows (now (a .rows))) (now (a .cursors))
 
 run-end-requires : tie.Need-run-end-requires
 run-end-requires c κs = search needs
@@ -109,9 +110,9 @@ repeat-requires c κs =
       (
         run-moves (src p) (back p) (a .used) (a .end .0) (a .p .0) (q .result .0) (p .pre .1 .0) (p .pre .1 .1 .0) (p .pre .1 .1 .1 .0 .0) (q .ensures) some (λ i. omega (arith, at-shared-slice-known2 .shared-slice-known2 .given i)),
         (
-          fewer-rows (now (a .text)) (now (a .rows)) (a .first) (a .count) (q .result .0 - 1) (omega (arith, f .0)) (a .used) (a .used + a .len) (omega arith) (omega (arith, z .0)) (p .pre .1 .0),
+          fewer-rows (now (a .text)) (inRows (now (a .rows))) (a .first) (a .count) (q .result .0 - 1) (omega (arith, f .0)) (a .used) (a .used + a .len) (omega arith) (omega (arith, z .0)) (p .pre .1 .0),
           (
-            fewer-spelt (now (a .text)) (now (a .rows)) (a .first) (a .count) (q .result .0 - 1) (omega (arith, f .0)) (run-spelt (src p) (back p) (a .used) (a .end .0) (a .p .0) (q .result .0) (p .pre .1 .0) (p .pre .1 .1 .0) (p .pre .1 .1 .1 .0 .0) (q .ensures) some),
+            fewer-spelt (now (a .text)) (inRows (now (a .rows))) (a .first) (a .count) (q .result .0 - 1) (omega (arith, f .0)) (run-spelt (src p) (back p) (a .used) (a .end .0) (a .p .0) (q .result .0) (p .pre .1 .0) (p .pre .1 .1 .0) (p .pre .1 .1 .1 .0 .0) (q .ensures) some),
             (
               w .ensures,
               ((omega (arith, z .0), omega (arith, u .0, p .pre .1 .1 .1 .0, at-else2 .if2 .left)), (omega (arith, f .0, u .1 .0), (u .1 .1, z .1))),

@@ -2,9 +2,10 @@ use borrow.Author.Needs.{needs}
 use native.Mathlib.Omega.{arith}
 use mathlib.Core.Path.{ap}
 use denote.Ref.{now}
-use Rattle.kept.specs.declared.Row.{Row}
+use Rattle.tables.specs.declared.Row.{Row}
 use Rattle.runs.proofs.Matches.{text-length}
 use Rattle.runs.proofs.run_length.Statement.{statement}
+use Rattle.tables.specs.Tables.{inRows}
 use Rattle.runs.proofs.run_length.Tie as tie
 
 row-in-requires : tie.Need-row-in-requires
@@ -41,7 +42,7 @@ returns c =
     let at-lead : tie.After-row-in = search in
     let p : tie.Start = search in
     let a = p .args in
-    rw (at-lead .row-in .ensures, at-last .row-in2 .ensures) (text-length (now (a .rows)) (a .from) (a .to))
+    rw (at-lead .row-in .ensures, at-last .row-in2 .ensures) (text-length (inRows (now (a .rows))) (a .from) (a .to))
 
 pub run-length-spec : {M : Type 1} → statement M
 run-length-spec = tie.close (tie.spec row-in-requires sub-row-in row-in-requires-2 add-result sub-result returns)

@@ -18,7 +18,10 @@ returns c = left _ _ (le-ltb _ _ (c .if1 .taken)) refl
 
 returns-2 : tie.Need-returns-2
 unfolding cutOf
-returns-2 c = took _ _ (lt-ltb _ _ (c .before .before .if1 .left)) (took _ _ (eq-eqb _ _ (c .if2 .taken)) refl)
+returns-2 c =
+    let at-else1 : tie.Else1 = search in
+    let at-start : tie.Start = search in
+    took _ _ (lt-ltb _ _ (at-else1 .if1 .left)) (took _ _ (eq-eqb (at-start .args .p .0) 127 (omega (arith, c .if2 .taken))) refl)
 
 shared-slice-read-run-class : tie.Need-shared-slice-read-run-class
 shared-slice-read-run-class c = search needs

@@ -1,11 +1,12 @@
 use denote.Ref.{now}
 use Rattle.sources.specs.Source.{source, earlier}
-use Rattle.tokens.specs.Types.{rulesOf}
+use Rattle.types.specs.Types.{rulesOf}
 use mathlib.Core.Path.{sym, _∙_}
 use Rattle.steps.proofs.Ways.{typed-barred, typed-value}
 use Rattle.steps.specs.Steps.{typedStep}
 use borrow.Author.Needs.{needs}
 use Rattle.steps.proofs.typed_step.Statement.{statement}
+use Rattle.tables.specs.Tables.{inRows}
 use Rattle.steps.proofs.typed_step.Tie as tie
 
 enum-known-found : tie.Need-enum-known-found
@@ -34,7 +35,7 @@ returns-2 c =
     let at-start : tie.Start = search in
     let a = at-start .args in
     let s = source (rulesOf (a .set)) (now (a .bytes)) (now (a .dir)) (now (a .cursors)) in
-    let e = earlier (now (a .text)) (now (a .rows)) (a .first) (a .count) in
+    let e = earlier (now (a .text)) (inRows (now (a .rows))) (a .first) (a .count) in
     rw (t .before .before .found .given .1)
     (typed-value s e (a .p .0) _ _ (t .type-of .ensures) (sym (c .before .before .barred .ensures) ∙ c .before .if1 .left) (c .value-step .ensures (rulesOf (a .set))))
 

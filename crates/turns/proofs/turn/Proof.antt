@@ -13,7 +13,9 @@ use Rattle.turns.proofs.OneTurn.{turn-got, turn-ends, turn-refuses, tur
 use borrow.Author.Needs.{needs}
 use Rattle.turns.proofs.turn.Statement.{statement}
 use Rattle.turns.proofs.turn.Tie as tie
-use Rattle.tokens.specs.Types.{rulesOf}
+use Rattle.types.specs.Types.{rulesOf}
+use Rattle.tables.specs.Tables.{inRows}
+use Rattle.tables.proofs.Rows.{numbers-below}
 
 -- what the function looks at, from its entry
 abbrev Entry : Type 0
@@ -30,7 +32,7 @@ src h =
 abbrev back : Entry → Earlier
 back h =
     let at-start : tie.Start = search in
-    let a = at-start .args in earlier (now (a .text)) (now (a .rows)) (a .first) (a .count)
+    let a = at-start .args in earlier (now (a .text)) (inRows (now (a .rows))) (a .first) (a .count)
 
 known : (h : Entry) →
     let at-start : tie.Start = search in
@@ -45,7 +47,7 @@ known h =
       last = a .pre .1 .1 .0 .0 .0 .1;
       bytes = λ i. omega (arith, at-shared-slice-known .shared-slice-known .given i);
       texts = λ i. omega (arith, h .before .slice-known2 .given i);
-      numbers = λ i. omega (arith, h .slice-known3 .given i);
+      numbers = numbers-below _ _ (λ i. omega (arith, h .slice-known3 .given i));
     }
 
 dir-below : (h : Entry) → Below (2 ^ 32) (src h .dir)

@@ -1,5 +1,5 @@
 use Rattle.kept.specs.Judgement.{counts}
-use Rattle.kept.specs.Tables.{room}
+use Rattle.tables.specs.Tables.{room, rowRoom}
 use Rattle.base.proofs.Choice.{and-both}
 use borrow.Author.Needs.{needs}
 use Rattle.kept.proofs.judgement.counts.Statement.{statement}
@@ -12,7 +12,7 @@ row-counts-requires : tie.Need-row-counts-requires
 row-counts-requires c κs = search needs
 
 returns : tie.Need-returns
-unfolding counts room
+unfolding counts room rowRoom
 returns c = rw (c .before .text-counts .ensures, c .row-counts .ensures) (and-both _ _)
 
 pub counts-spec : {M : Type 1} → statement M

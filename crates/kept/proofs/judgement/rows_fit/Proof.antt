@@ -3,6 +3,7 @@ use native.Mathlib.Omega.{arith}
 use Prim.Native.Nat.{_≤_, _-_, _+_}
 use mathlib.Core.Path.{_≡_}
 use Rattle.base.specs.Choice.{both}
+use Rattle.tables.specs.Tables.{inRows}
 use Rattle.kept.specs.Judgement.{rowsFit}
 use Rattle.base.proofs.Choice.{and-both}
 use Rattle.kept.proofs.Steps.{rows-start, rows-turn, rows-done}
@@ -11,7 +12,7 @@ use Rattle.kept.proofs.judgement.rows_fit.Tie as tie
 
 abbrev Inv-loop : tie.InvT-loop
 Inv-loop used rows first many end ok₀ i₀ ok i =
-    (i ≤ end) × ((end ≡ first + many) × (both ok (rowsFit used rows i (end - i)) ≡ rowsFit used rows first many))
+    (i ≤ end) × ((end ≡ first + many) × (both ok (rowsFit used (inRows rows) i (end - i)) ≡ rowsFit used (inRows rows) first many))
 
 abbrev μ-loop : tie.MeasureT-loop
 μ-loop used rows first many end ok₀ i₀ ok i = end - i

@@ -2,6 +2,7 @@ use Rattle.names.proofs.Turns.{token-put}
 use denote.Ref.{now}
 use borrow.Author.Needs.{needs}
 use Rattle.names.proofs.keeping.keep_token.Statement.{statement}
+use Rattle.tables.specs.Tables.{inRows}
 use Rattle.names.proofs.keeping.keep_token.Tie as tie
 
 put-requires : tie.Need-put-requires
@@ -29,7 +30,7 @@ returns c =
     let at-start : tie.Start = search in
     let a = at-start .args in (
       at-put .put .ensures .0,
-      token-put (now (a .bytes)) (now (a .text)) (now (a .rows)) (now (a .cursors)) (a .t) (a .ty) (a .p .0) (a .c .0) (a .at) (a .row) (at-put .put .ensures .1) (at-put-row .put-row .ensures) (c .before .before .advance .ensures),
+      token-put (now (a .bytes)) (now (a .text)) (inRows (now (a .rows))) (now (a .cursors)) (a .t) (a .ty) (a .p .0) (a .c .0) (a .at) (a .row) (at-put .put .ensures .1) (at-put-row .put-row .ensures) (c .before .before .advance .ensures),
     )
 
 pub keep-token-spec : {M : Type 1} → statement M
