@@ -1,28 +1,17 @@
 -- Laws of lists, parts and writes that loops want.
-use Prim.Native.Nat.{ℕ, zero, suc, _+_, _-_, _≤_, _<_}
+use Prim.Native.Nat.{ℕ, suc, _+_, _-_, _≤_, _<_}
 use mathlib.Core.Path.{_≡_, refl, sym, ap, _∙_}
-use mathlib.Core.List.{List, [], _∷_, _++_, append-assoc, reverse, reverse-cons}
+use mathlib.Core.List.{List, [], _∷_, _++_, append-assoc}
 use native.Mathlib.Omega.{arith}
 use native.Mathlib.Numerals.{add-one}
-use lib.ListN.{length, getD, take, drop, set, length-append, length-drop, length-reverse, List·getD-append}
-use lib.Seq.{set-split, drop-at, take-at, take-set-le, take-suc, take-all, take-add, length-take-le, drop-cons, getD-append-seam, getD-drop, drop-drop}
+use lib.ListN.{length, getD, take, drop, set, length-append, length-drop}
+use lib.Seq.{drop-at, take-at, take-suc, take-all, take-add, drop-cons, getD-drop, drop-drop}
 use Rattle.base.specs.Memory.{written, part}
 use Rattle.base.proofs.Memory.{one-written, written-next}
 
 -- a write whose first element is set beforehand
 pub written-first : (d : List ℕ) (at b : ℕ) (s : List ℕ) → at + 1 ≤ length d → written (set d at b) (at + 1) s ≡ written d at (b ∷ s)
 written-first d at b s h = ap (λ (l : List ℕ). written l (at + 1) s) (one-written d at b h) ∙ written-next d at (b ∷ []) s h
-
-drop-set : (d : List ℕ) (k b : ℕ) → k < length d → drop k (set d k b) ≡ b ∷ drop (suc k) d
-drop-set d k b h = ap (drop k) (set-split d k b h) ∙ drop-at (take k d) (b ∷ drop (suc k) d) k (length-take-le k d (omega arith))
-
--- a write whose last element is set beforehand
-pub written-last : (d : List ℕ) (at b k : ℕ) (s : List ℕ) → k ≡ length s → at + k < length d → written (set d (at + k) b) at s ≡ written d at (s ++ b ∷ [])
-unfolding written
-written-last d at b k s e h =
-    let g : at + k < length d = h in
-    let f : at + length (s ++ b ∷ []) ≡ suc (at + k) = omega (arith, length-append s (b ∷ [])) in
-    rw (← e, f, take-set-le at d (at + k) b (omega arith), drop-set d (at + k) b g) (simp append-assoc)
 
 pub part-first : (s : List ℕ) (from to : ℕ) → from < to → to ≤ length s → part s from to ≡ getD s from 0 ∷ part s (from + 1) to
 unfolding part
@@ -74,12 +63,3 @@ written-mid p x r s at e f =
 pub none-long : (l : List ℕ) → length l ≡ 0 → l ≡ []
 none-long [] e = refl
 none-long (x ∷ l) e = absurd (omega arith)
-
-pub getD-reverse : (l : List ℕ) (i j : ℕ) → i + j + 1 ≡ length l → getD (reverse l) i 0 ≡ getD l j 0
-getD-reverse [] i j h = absurd (omega arith)
-getD-reverse (x ∷ l) i zero h =
-    let e : i ≡ length (reverse l) = omega (arith, length-reverse l) in
-    rw (reverse-cons, e, getD-append-seam)
-getD-reverse (x ∷ l) i (suc j) h =
-    let e : i < length (reverse l) = omega (arith, length-reverse l) in
-    rw (reverse-cons, List·getD-append) (getD-reverse l i j (omega arith))

@@ -5,7 +5,7 @@ use mathlib.Core.Bool.{true, false}
 use mathlib.Core.Logic.{⊎-elim}
 use mathlib.Core.List.{List, [], _∷_, _++_, reverse-cons, append-nil}
 use native.Mathlib.Omega.{arith}
-use native.Mathlib.Nat.{add-zero, zero-add, mul-assoc, mul-le-mul-right, pow-suc, pow-succ', pow-le-pow-right, div-lt-iff-lt-mul}
+use native.Mathlib.Nat.{add-zero, zero-add, mul-assoc, mul-le-mul-right, pow-suc, pow-succ', pow-le-pow-right, div-lt-iff-lt-mul, div-add-mod'}
 use native.Mathlib.Numerals.{lt-of-le-of-ne}
 use lib.Dec.{ltb, leb}
 use lib.Seq.{append-snoc}
@@ -159,6 +159,42 @@ count-is n w h a b =
     (λ l. absurd (omega (arith, below-count n w h (omega arith))))
     (λ g. omega (arith, count-le n (suc w) (omega arith) b))
     (lt-or-ge (digitCount n) (suc w))
+
+-- Digits from the front
+
+-- what is above the w lowest digits isn't printed with w
+padded-low : (w a b : ℕ) → padded (a * 10 ^ w + b) w ≡ padded b w
+padded-low zero a b = padded-none (a * 10 ^ 0 + b) ∙ sym (padded-none b)
+padded-low (suc w) a b =
+    let n : ℕ = a * 10 ^ suc w + b in
+    let t : a * 10 ^ suc w ≡ a * 10 ^ w * 10 = ap (λ (p : ℕ). a * p) (pow-suc 10 w) ∙ sym (mul-assoc a (10 ^ w) 10) in
+    let q : n / 10 ≡ a * 10 ^ w + b / 10 = omega arith in
+    let r : n % 10 ≡ b % 10 = omega arith in
+    padded-more n w ∙ rw (q, r) (ap (λ (s : List ℕ). s ++ (48 + b % 10) ∷ []) (padded-low w a (b / 10))) ∙ sym (padded-more b w)
+
+-- the first of w + 1 digits, then the others
+pub padded-first : (w d b : ℕ) → d < 10 → b < 10 ^ w → padded (d * 10 ^ w + b) (suc w) ≡ (48 + d) ∷ padded b w
+padded-first zero d b h k =
+    let z : b ≡ 0 = omega arith in
+    let n : ℕ = d * 1 + b in
+    let r : n % 10 ≡ d = omega arith in
+    padded-more n 0 ∙ rw r (ap (λ (s : List ℕ). s ++ (48 + d) ∷ []) (padded-none (n / 10))) ∙ sym (ap (λ (s : List ℕ). (48 + d) ∷ s) (padded-none b))
+padded-first (suc w) d b h k =
+    let n : ℕ = d * 10 ^ suc w + b in
+    let t : d * 10 ^ suc w ≡ d * 10 ^ w * 10 = ap (λ (p : ℕ). d * p) (pow-suc 10 w) ∙ sym (mul-assoc d (10 ^ w) 10) in
+    let q : n / 10 ≡ d * 10 ^ w + b / 10 = omega arith in
+    let r : n % 10 ≡ b % 10 = omega arith in
+    padded-more n (suc w)
+    ∙ rw (q, r) (ap (λ (s : List ℕ). s ++ (48 + b % 10) ∷ []) (padded-first w d (b / 10) h (div-ten w b k)))
+    ∙ sym (ap (λ (s : List ℕ). (48 + d) ∷ s) (padded-more b w))
+
+-- a number below ten to the w has a zero before its w digits
+pub padded-zero : (n w : ℕ) → n < 10 ^ w → padded n (suc w) ≡ 48 ∷ padded n w
+padded-zero n w h = let z : 0 * 10 ^ w + n ≡ n = omega arith in sym (ap (λ (m : ℕ). padded m (suc w)) z) ∙ padded-first w 0 n (omega arith) h
+
+-- the w lowest digits of a number are all that w digits print
+pub padded-mod : (n w : ℕ) → padded (n % 10 ^ w) w ≡ padded n w
+padded-mod n w = sym (padded-low w (n / 10 ^ w) (n % 10 ^ w)) ∙ ap (λ (m : ℕ). padded m w) (div-add-mod' n (10 ^ w))
 
 -- Widths
 

@@ -243,14 +243,61 @@ fn shorten(random: &mut Random, directory: &mut Vec<u32>, cursors: &mut Vec<u32>
     }
 }
 
-/// All small numbers, and those around every power of ten and the largest.
+/// All small numbers, those around every power of ten and the largest, each digit at each
+/// place, and every beginning of two numbers in which no digit stands twice.
 fn telling_numbers() -> Vec<u32> {
     let powers = (1..10).flat_map(|power| {
         let power = 10_u32.pow(power);
         power - 2..=power + 1
     });
     let largest = u32::MAX - 3..=u32::MAX;
-    (0..120).chain(powers).chain(largest).collect()
+    let digit = |place| (1..10).filter_map(move |digit| 10_u32.pow(place).checked_mul(digit));
+    let begun = |number: u32| (0..10).map(move |place| number / 10_u32.pow(place));
+    (0..120)
+        .chain(powers)
+        .chain(largest)
+        .chain((0..10).flat_map(digit))
+        .chain(begun(1_234_567_890))
+        .chain(begun(3_987_654_210))
+        .collect()
+}
+
+/// Numbers as they are printed, plainly or at a width.
+const HELD: [(u32, Option<u32>, &str); 16] = [
+    (0, None, "0"),
+    (7, None, "7"),
+    (9, None, "9"),
+    (10, None, "10"),
+    (99, None, "99"),
+    (100, None, "100"),
+    (999_999_999, None, "999999999"),
+    (1_000_000_000, None, "1000000000"),
+    (1_234_567_890, None, "1234567890"),
+    (u32::MAX, None, "4294967295"),
+    (0, Some(1), "0"),
+    (0, Some(3), "000"),
+    (123, Some(5), "00123"),
+    (99, Some(2), "99"),
+    (u32::MAX, Some(10), "4294967295"),
+    (u32::MAX, Some(12), "004294967295"),
+];
+
+fn hold(leaves: &dyn Leaves) {
+    for (number, width, printed) in HELD {
+        let mut buffer = vec![0xEE; printed.len() + 2];
+        let answer = match width {
+            None => leaves.print(number, &mut buffer, 1),
+            Some(width) => leaves.print_padded(number, width, &mut buffer, 1),
+        };
+        assert_eq!(answer, printed.len() as u64, "{number} at {width:?}");
+        let wanted = [&[0xEE], printed.as_bytes(), &[0xEE]].concat();
+        assert_eq!(buffer, wanted, "{number} at {width:?}");
+    }
+}
+
+#[test]
+fn second_program_prints_as_held() {
+    hold(&SecondLeaves);
 }
 
 fn compare(left: &dyn Leaves, right: &dyn Leaves) -> Result<u64, String> {
@@ -280,6 +327,13 @@ struct Wrong(usize);
 
 impl Leaves for Wrong {
     fn print(&self, number: u32, buffer: &mut [u8], at: usize) -> u64 {
+        let number = match self.0 {
+            8 if number >= 1_000_000_000 => number % 1_000_000_000,
+            _ => number,
+        };
+        if self.0 == 9 && number == 0 && at < buffer.len() {
+            return 0;
+        }
         let answer = SecondLeaves.print(number, buffer, at);
         if self.0 == 0 && answer == NONE && at < buffer.len() {
             buffer[at] = b'0';
@@ -291,7 +345,13 @@ impl Leaves for Wrong {
         if self.0 == 1 && width == 255 && at + 255 <= buffer.len() {
             return 255;
         }
-        SecondLeaves.print_padded(number, width, buffer, at)
+        let answer = SecondLeaves.print_padded(number, width, buffer, at);
+        if self.0 == 10 && answer != NONE && number > 0 {
+            let printed = &mut buffer[at..at + width as usize];
+            let zeros = printed.iter().take_while(|byte| **byte == b'0').count();
+            printed.rotate_left(zeros);
+        }
+        answer
     }
 
     fn fits(&self, number: u32, width: u32) -> u32 {
@@ -341,11 +401,17 @@ impl Leaves for Wrong {
 
 #[test]
 fn every_wrong_leaf_is_found() {
-    for number in 0..8 {
+    for number in 0..11 {
         let found = compare(&SecondLeaves, &Wrong(number));
         assert!(found.is_err(), "wrong leaf {number} passed");
     }
-    assert!(compare(&SecondLeaves, &Wrong(8)).is_ok());
+    assert!(compare(&SecondLeaves, &Wrong(11)).is_ok());
+}
+
+#[cfg(feature = "leaves")]
+#[test]
+fn linked_leaves_print_as_held() {
+    hold(&second::boundary::LinkedLeaves);
 }
 
 #[cfg(feature = "leaves")]

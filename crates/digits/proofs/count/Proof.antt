@@ -1,11 +1,11 @@
 use borrow.Author.Needs.{needs}
-use mathlib.Core.Path.{sym}
+use native.Mathlib.Omega.{arith}
 use Rattle.digits.proofs.Laws.{count-one, count-is}
 use Rattle.digits.proofs.count.Statement.{statement}
 use Rattle.digits.proofs.count.Tie as tie
 
 returns : tie.Need-returns
-returns c = sym (count-one (c .before .args .n) (search needs))
+returns c = omega (arith, count-one (c .before .args .n) (search needs))
 
 returns-2 : tie.Need-returns-2
 returns-2 c = count-is _ 1 (search needs) (search needs) (search needs)
