@@ -98,8 +98,10 @@ uint64_t aq_claim(uint32_t number, const uint8_t *claim, size_t claim_len,
                   const uint8_t *text, size_t text_len, const uint32_t *names, size_t names_len,
                   const uint32_t state[4]);
 
-/* Write names, each ended by byte 10, into token streams. Code 0: value the number of bytes written; totals: names,
- * bytes. The directory is filled, and the bytes up to the total and no more. */
+/* Write names, each ended by byte 10, into token streams. A longest run of the letters A to Z and a to z is one token of
+ * a name, as is one of digits up to nine, and every other byte; what is left behind 126 tokens is the last. Code 0: value
+ * the number of bytes written; totals: names, bytes. The directory is filled, and the bytes up to the total and no
+ * more. */
 uint64_t aq_write(const uint8_t *input, size_t input_len, uint32_t *directory, size_t directory_len,
                   uint8_t *bytes, size_t bytes_len, uint32_t totals[2]);
 

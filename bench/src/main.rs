@@ -3,8 +3,9 @@
 //! `bench` prints the tables of times. `bench one` runs one call of one holder over 1,000
 //! Illumina-like names so many times, prints how many names those are and nothing else, for a
 //! counter of instructions; the difference between two such runs leaves the setting up out. With
-//! a number behind it every so many-th of the names that are read starts afresh. With a file both
-//! are of its names, a name a line. `bench lent` says what is lent in either.
+//! a number behind it every so many-th of the names that are read starts afresh. `bench written`
+//! prints what writing makes of names. With a file all three are of its names, a name a line.
+//! `bench lent` says what is lent in the first two.
 
 #![deny(unsafe_code)]
 
@@ -15,6 +16,7 @@ mod plain;
 mod reference;
 mod tables;
 mod work;
+mod written;
 
 use clock::Rounds;
 use names::{Names, ILLUMINA};
@@ -24,6 +26,7 @@ use std::str::FromStr;
 use work::{by_word, each_block, CALLS, HOLDERS};
 
 const USAGE: &str = "bench lent
+bench [--names FILE] written
 bench [--names FILE] [ROUNDS]
 bench [--names FILE] one library|second|plain|tok3 CALL TIMES [AFRESH]
 CALL: 'whole block', 'single reads', claims, 'writing, exact' or 'writing, ample'
@@ -60,6 +63,7 @@ fn run(words: &[&str]) -> Result<(), String> {
             println!("{}", tables::LENT);
             Ok(())
         }
+        ["written"] => written::print(names),
         [] => tables::print(names, Rounds(20)),
         [rounds] => tables::print(names, Rounds(number(rounds)?)),
         _ => Err(USAGE.to_string()),

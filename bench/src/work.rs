@@ -6,7 +6,7 @@ use crate::reference::Reference;
 use second::boundary::Linked;
 use second::calls::{Calls, Second};
 use second::cases::script::{Packed, Script};
-use second::directory::{Stream, MOST_NAMES, STREAMS};
+use second::directory::{Block, Stream, MOST_NAMES, STREAMS};
 use second::kept::FIVE;
 use second::memory::{self, Memory, Room};
 use second::refusal::{unpack, DONE};
@@ -223,6 +223,14 @@ impl Work {
 
     pub fn tokens(&self) -> u32 {
         self.block.state_numbers()[3]
+    }
+
+    /// The block that is read.
+    pub fn block(&self) -> Block<'_> {
+        Block {
+            bytes: self.block.bytes.get(),
+            directory: self.block.directory.get(),
+        }
     }
 }
 

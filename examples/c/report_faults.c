@@ -203,5 +203,10 @@ int main(void) {
     if (!read_first(MIXED_COUNT))
         return 1;
     claim_all(MIXED_FAULTS, sizeof MIXED_FAULTS / sizeof MIXED_FAULTS[0]);
+
+    /* Letters side by side are one token, and every sign is one. */
+    if (AQ_CODE(write_block("lab_A:run7\nlab_B:run7\n")) != 0 || !read_first(2))
+        return 1;
+    claim(&(struct fault){"a letter between two signs", 1, "lab_C:run7"});
     return 0;
 }

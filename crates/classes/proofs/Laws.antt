@@ -1,34 +1,53 @@
 -- What is known of the classes of bytes.
 use Prim.Native.Nat.{ℕ, _+_, _≤_, _<_}
-use mathlib.Core.Path.{_≡_, sym, ap, _∙_}
-use mathlib.Core.Bool.{true, false}
+use mathlib.Core.Path.{_≡_, refl, sym, ap, _∙_}
+use mathlib.Core.Bool.{Bool, true, false}
 use mathlib.Core.List.{List, [], _∷_}
 use native.Mathlib.Omega.{arith}
 use borrow.Author.Needs.{needs}
-use borrow.Author.Tests.{le-leb}
-use lib.Dec.{T}
+use borrow.Author.Tests.{le-leb, leb-true}
+use lib.Dec.{T, leb}
 use lib.ListN.{length, getD}
-use Rattle.base.specs.Choice.{pick}
+use Rattle.base.specs.Choice.{pick, both}
 use Rattle.base.specs.Memory.{part}
-use Rattle.base.proofs.Choice.{pick-true, pick-false, both-left, by-test, never}
+use Rattle.base.proofs.Choice.{pick-true, pick-false, pick-either, both-true, both-of, both-left, by-test, never, fails}
 use Rattle.base.proofs.Table.{rule, follows}
 use Rattle.digits.specs.Digits.{isDigit, allDigits, padded, printed}
 use Rattle.base.proofs.Every.{every-none, every-one, every-part, every-weaker}
 use Rattle.base.proofs.Lists.{part-none}
 use Rattle.digits.proofs.Laws.{digit-range, all-digits-padded, all-digits-printed}
-use Rattle.classes.specs.Classes.{isAllowed, allAllowed, classOf, classTable}
+use Rattle.classes.specs.Classes.{isAllowed, allAllowed, isLetter, otherClass, digitClass, letterClass, classOf, tabledOf, classTable, classSize}
 
 -- the test of the whole table, computed
-whole : T (follows classOf 0 classTable)
-unfolding classTable classOf isAllowed isDigit pick
+whole : T (follows tabledOf 0 classTable)
+unfolding classTable tabledOf classOf isAllowed isLetter isDigit pick
 whole = search needs
 
--- and so the class of each byte stands at its place
-pub class-at : (b : ℕ) → b < 256 → getD classTable b 0 ≡ classOf b
+-- and so what is tabled of each byte stands at its place
+pub tabled-at : (b : ℕ) → b < 256 → getD classTable b 0 ≡ tabledOf b
 unfolding classTable
-class-at b h = rule classOf classTable whole b h
+tabled-at b h = rule tabledOf classTable whole b h
 
--- Digits and allowed bytes
+-- ten digits, 52 letters and 194 others, computed
+pub sizes : classSize digitClass 256 ∷ classSize letterClass 256 ∷ classSize otherClass 256 ∷ [] ≡ 10 ∷ 52 ∷ 194 ∷ []
+unfolding classSize classOf isLetter isDigit pick
+sizes = refl
+
+-- Digits and letters
+
+letter-range : (b : ℕ) → isLetter b ≡ true → (65 ≤ b) × (b ≤ 122)
+unfolding isLetter
+letter-range b e = by-test (both (leb 65 b) (leb b 90))
+    (λ u.
+    let r = both-true (leb 65 b) (leb b 90) u in
+    let low : 65 ≤ b = leb-true _ _ (r .0) in
+    let high : b ≤ 90 = leb-true _ _ (r .1) in
+    omega arith)
+    (λ u.
+    let r = both-true (leb 97 b) (leb b 122) (sym (pick-false true (both (leb 97 b) (leb b 122)) u) ∙ e) in
+    let low : 97 ≤ b = leb-true _ _ (r .0) in
+    let high : b ≤ 122 = leb-true _ _ (r .1) in
+    omega arith)
 
 pub digit-allowed : (b : ℕ) → isDigit b ≡ true → isAllowed b ≡ true
 unfolding isAllowed pick
@@ -38,35 +57,64 @@ digit-allowed b e =
     let high : b ≤ 63 = omega arith in
     rw (le-leb _ _ low, le-leb _ _ high)
 
-pub class-digit : (b : ℕ) → isDigit b ≡ true → classOf b ≡ 2
+letter-allowed : (b : ℕ) → isLetter b ≡ true → isAllowed b ≡ true
+unfolding isAllowed
+letter-allowed b e =
+    let r : (65 ≤ b) × (b ≤ 122) = letter-range b e in
+    let high : b ≤ 126 = omega arith in
+    pick-either (λ (x : Bool). x ≡ true) (both (leb 33 b) (leb b 63)) true _ refl (both-of (le-leb _ _ (r .0)) (le-leb _ _ high))
+
+pub letter-no-digit : (b : ℕ) → isLetter b ≡ true → isDigit b ≡ false
+letter-no-digit b e = fails (λ d.
+    let r : (65 ≤ b) × (b ≤ 122) = letter-range b e in
+    let k : (48 ≤ b) × (b ≤ 57) = digit-range b d in
+    omega arith)
+
+-- The three classes
+
+pub class-digit : (b : ℕ) → isDigit b ≡ true → classOf b ≡ digitClass
 unfolding classOf
-class-digit b e = pick-true 2 (pick (isAllowed b) 1 0) e
+class-digit b e = pick-true 1 (pick (isLetter b) 2 0) e
 
-pub class-barred : (b : ℕ) → isAllowed b ≡ false → classOf b ≡ 0
+pub class-letter : (b : ℕ) → isLetter b ≡ true → classOf b ≡ letterClass
 unfolding classOf
-class-barred b e = by-test (isDigit b) (λ d. absurd (never (sym e ∙ digit-allowed b d))) (λ d. pick-false 2 (pick (isAllowed b) 1 0) d ∙ pick-false 1 0 e)
+class-letter b e = pick-false 1 (pick (isLetter b) 2 0) (letter-no-digit b e) ∙ pick-true 2 0 e
 
-class-one : (b : ℕ) → isDigit b ≡ false → isAllowed b ≡ true → classOf b ≡ 1
+pub class-other : (b : ℕ) → isDigit b ≡ false → isLetter b ≡ false → classOf b ≡ otherClass
 unfolding classOf
-class-one b d e = pick-false 2 (pick (isAllowed b) 1 0) d ∙ pick-true 1 0 e
+class-other b d e = pick-false 1 (pick (isLetter b) 2 0) d ∙ pick-false 2 0 e
 
-class-other : (b : ℕ) → isDigit b ≡ false → classOf b ≤ 1
-class-other b d = by-test (isAllowed b) (λ e. omega (arith, class-one b d e)) (λ e. omega (arith, class-barred b e))
+pub digit-class : (b : ℕ) → classOf b ≡ digitClass → isDigit b ≡ true
+digit-class b e = by-test (isDigit b) (λ d. d) (λ d. by-test (isLetter b)
+    (λ l. absurd (omega (arith, class-letter b l)))
+    (λ l. absurd (omega (arith, class-other b d l))))
 
-class-some : (b : ℕ) → isAllowed b ≡ true → 1 ≤ classOf b
-class-some b e = by-test (isDigit b) (λ d. omega (arith, class-digit b d)) (λ d. omega (arith, class-one b d e))
+pub letter-class : (b : ℕ) → classOf b ≡ letterClass → isLetter b ≡ true
+letter-class b e = by-test (isLetter b) (λ l. l) (λ l. by-test (isDigit b)
+    (λ d. absurd (omega (arith, class-digit b d)))
+    (λ d. absurd (omega (arith, class-other b d l))))
 
-pub digit-class : (b : ℕ) → classOf b ≡ 2 → isDigit b ≡ true
-digit-class b e = by-test (isDigit b) (λ d. d) (λ d. absurd (omega (arith, class-other b d)))
+-- What is tabled
 
-pub other-class : (b : ℕ) → (classOf b ≡ 2 → ⊥) → isDigit b ≡ false
-other-class b f = by-test (isDigit b) (λ d. absurd (f (class-digit b d))) (λ d. d)
+tabled-barred : (b : ℕ) → isAllowed b ≡ false → tabledOf b ≡ 0
+unfolding tabledOf
+tabled-barred b e = pick-false (classOf b + 1) 0 e
 
-pub barred-class : (b : ℕ) → classOf b ≡ 0 → isAllowed b ≡ false
-barred-class b e = by-test (isAllowed b) (λ a. absurd (omega (arith, class-some b a))) (λ a. a)
+pub tabled-allowed : (b : ℕ) → isAllowed b ≡ true → tabledOf b ≡ classOf b + 1
+unfolding tabledOf
+tabled-allowed b e = pick-true (classOf b + 1) 0 e
 
-pub allowed-class : (b : ℕ) → (classOf b ≡ 0 → ⊥) → isAllowed b ≡ true
-allowed-class b f = by-test (isAllowed b) (λ a. a) (λ a. absurd (f (class-barred b a)))
+pub barred-tabled : (b : ℕ) → tabledOf b ≡ 0 → isAllowed b ≡ false
+barred-tabled b e = by-test (isAllowed b) (λ a. absurd (omega (arith, tabled-allowed b a))) (λ a. a)
+
+pub allowed-tabled : (b : ℕ) → (tabledOf b ≡ 0 → ⊥) → isAllowed b ≡ true
+allowed-tabled b f = by-test (isAllowed b) (λ a. a) (λ a. absurd (f (tabled-barred b a)))
+
+-- digits and letters are allowed, so that any other byte is of the class of others
+pub barred-class : (b : ℕ) → isAllowed b ≡ false → classOf b ≡ otherClass
+barred-class b e =
+    let other : (f : ℕ → Bool) → (f b ≡ true → isAllowed b ≡ true) → f b ≡ false = λ f g. fails (λ t. never (sym e ∙ g t)) in
+    class-other b (other isDigit (digit-allowed b)) (other isLetter (letter-allowed b))
 
 -- Lists of them
 

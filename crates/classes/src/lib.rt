@@ -1,4 +1,4 @@
-// Digit or not, and allowed by SAM or not: a property of each of the 256 byte values, tabled.
+// Digit, letter or another, and allowed by SAM or not: a property of each of the 256 byte values, tabled.
 // A caller makes the table once and lends it, since a constant is built anew wherever it is read.
 // Reading asks only what SAM allows and holds no table: it compares.
 ghost use mathlib.Core.Path.{_≡_};
@@ -7,12 +7,22 @@ ghost use lib.Dec.{leb};
 ghost use lib.ListN.{length};
 ghost use Rattle.base.specs.Choice.{both};
 ghost use Rattle.base.specs.Memory.{part};
-ghost use Rattle.classes.specs.Classes.{isAllowed, classOf, classTable, allAllowed};
+ghost use Rattle.classes.specs.Classes.{isAllowed, classOf, tabledOf, classTable, allAllowed};
 ghost use Rattle.base.specs.Lent.{lent};
 
 mod entries;
 
 use crate::entries::CLASSES;
+
+// The three classes.
+pub const OTHER: u8 = 0;
+
+pub const DIGIT: u8 = 1;
+
+pub const LETTER: u8 = 2;
+
+// What is tabled of a byte that SAM does not allow; of any other it is the class and 1.
+const BARRED: u8 = 0;
 
 // The table, to be lent.
 pub fn table() -> [u8; 256]
@@ -21,21 +31,30 @@ pub fn table() -> [u8; 256]
     CLASSES
 }
 
-// A byte's class by the table.
-pub fn class_in(table: &[u8; 256], b: u8) -> u8
+// What is tabled of a byte.
+pub fn tabled_in(table: &[u8; 256], b: u8) -> u8
     requires { ⌜ now table ≡ classTable ⌝ }
-    ensures { λ r. ⌜ r ≡ classOf b ⌝ }
+    ensures { λ r. ⌜ r ≡ tabledOf b ⌝ }
 {
     let i = b as usize;
     table[i]
 }
 
-// A byte's class where only one is asked for.
-pub fn class(b: u8) -> u8
-    ensures { λ r. ⌜ r ≡ classOf b ⌝ }
+// The same where only one byte is asked for.
+pub fn tabled(b: u8) -> u8
+    ensures { λ r. ⌜ r ≡ tabledOf b ⌝ }
 {
     let t = table();
-    class_in(&t, b)
+    tabled_in(&t, b)
+}
+
+// A byte's class by the table.
+pub fn class_in(table: &[u8; 256], b: u8) -> u8
+    requires { ⌜ now table ≡ classTable ⌝ }
+    ensures { λ r. ⌜ r ≡ classOf b ⌝ }
+{
+    let t = tabled_in(table, b);
+    if t == BARRED { OTHER } else { t - 1 }
 }
 
 // Every byte of a part is one that SAM allows.
@@ -45,7 +64,7 @@ pub fn allowed(table: &[u8; 256], bytes: &[u8], from: usize, to: usize) -> bool
 {
     let mut i = from;
     while i < to {
-        if class_in(table, bytes[i]) == 0 {
+        if tabled_in(table, bytes[i]) == BARRED {
             return false;
         }
         i += 1;

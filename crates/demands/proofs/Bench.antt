@@ -9,7 +9,7 @@ use Rattle.base.specs.Memory.{part, written}
 use Rattle.comparing.specs.Same.{same}
 use Rattle.base.specs.Every.{every, numbers}
 use Rattle.digits.specs.Digits.{low, padded, countWithin, digitCount, printed, fitsWidth, isDigit, valueFrom, valueOf}
-use Rattle.classes.specs.Classes.{isAllowed}
+use Rattle.classes.specs.Classes.{isAllowed, isLetter, classOf}
 use Rattle.spans.specs.Spans.{byteAt, four, fourAt, fourBytes, zeroFrom, textEnd, textAt}
 use Rattle.block.specs.Block.{spanOf, startOf, endOf, cursorOf}
 use Rattle.types.specs.declared.TokenType.the-variants.{Match}
@@ -33,7 +33,7 @@ use Rattle.copying.specs.Copies.{dupOf}
 use Rattle.naming.specs.Naming.{namedOf, diffOf}
 use Rattle.earlier.specs.Back.{rowsOf, none, entryBack}
 use Rattle.inner.specs.Next.{headedOf, nextOf}
-use Rattle.splitting.specs.Split.{runClass, runEnd, runLimit, runAt, cutAt}
+use Rattle.splitting.specs.Split.{runEnd, runLimit, runAt, cutAt}
 use Rattle.pieces.specs.Pieces.{textPiece, numberPiece, pieceAt}
 use Rattle.rises.specs.Rises.{riseOf}
 use Rattle.choices.specs.Choices.{byRise, leanDigits, lean, choiceAt, choicesFrom, choicesOf}
@@ -100,12 +100,15 @@ computed = (
                     (
                       two (second _ _ refl refl) (second _ _ refl refl),
                       (
-                        block wider 1 _ _ (omega arith) refl refl,
+                        two (second _ _ refl refl) (second _ _ refl refl),
                         (
-                          two (block wider 1 _ _ (omega arith) refl refl) (block wider 1 _ _ (omega arith) refl refl),
+                          block wider 1 _ _ (omega arith) refl refl,
                           (
-                            two (block wider 2 _ _ (omega arith) refl refl) (block wider 3 _ _ (omega arith) refl refl),
-                            (three (block wider 1 _ _ (omega arith) refl refl) (block wider 1 _ _ (omega arith) refl refl) (block wider 1 _ _ (omega arith) refl refl), tt),
+                            two (block wider 1 _ _ (omega arith) refl refl) (block wider 1 _ _ (omega arith) refl refl),
+                            (
+                              two (block wider 2 _ _ (omega arith) refl refl) (block wider 3 _ _ (omega arith) refl refl),
+                              (three (block wider 1 _ _ (omega arith) refl refl) (block wider 1 _ _ (omega arith) refl refl) (block wider 1 _ _ (omega arith) refl refl), tt),
+                            ),
                           ),
                         ),
                       ),
@@ -122,7 +125,7 @@ computed = (
 )
 
 writing-holds : Hold writingCases
-unfolding pick part written same isDigit every isAllowed valueFrom valueOf fourBytes spanOf startOf endOf numbersOf typeNumber runClass runEnd runLimit runAt cutAt textPiece numberPiece pieceAt riseOf byRise leanDigits lean choiceAt choicesFrom choicesOf anew referenceOf leansOn laying.share laying.contentOf laying.joined laying.startIn laying.tableOf laying.directoryOf laying.totalOf laying.bytesOf inputs.namesAfter inputs.namesOf inputs.ended inputs.goodName inputs.judgedFrom pieceType choiceType piecePuts valuePuts choicePuts tokenPuts headPuts referencePuts namePuts putsFrom putsOf countable laidOf judgedOf writeOf typeBytes bytesIn streamsIn wroteIn writeIn
+unfolding pick part written same isDigit every isAllowed valueFrom valueOf fourBytes spanOf startOf endOf numbersOf typeNumber classOf isLetter runEnd runLimit runAt cutAt textPiece numberPiece pieceAt riseOf byRise leanDigits lean choiceAt choicesFrom choicesOf anew referenceOf leansOn laying.share laying.contentOf laying.joined laying.startIn laying.tableOf laying.directoryOf laying.totalOf laying.bytesOf inputs.namesAfter inputs.namesOf inputs.ended inputs.goodName inputs.judgedFrom pieceType choiceType piecePuts valuePuts choicePuts tokenPuts headPuts referencePuts namePuts putsFrom putsOf countable laidOf judgedOf writeOf typeBytes bytesIn streamsIn wroteIn writeIn
 writing-holds = (refl, (refl, tt))
 
 parted : (xs ys : List Case) → Hold (xs ++ ys) → Hold xs × Hold ys

@@ -177,16 +177,18 @@ writingCases =
 abbrev pub cases : List Case
 cases = tokenCases ++ blockCases ++ writingCases
 
--- name 0 is STRING a1, and name 1 is MATCH and a type more
-abbrev pub matched : TokenType → Told
-matched second = readOver 1 (leaning (String ∷ Match ∷ []) (stream 1 stringStream (97 ∷ 49 ∷ 0 ∷ []) ∷ []) (End ∷ second ∷ []))
+-- name 0 is one STRING, and name 1 is MATCH and a type more
+abbrev pub matched : List ℕ → TokenType → Told
+matched text second = readOver 1 (leaning (String ∷ Match ∷ []) (stream 1 stringStream (text ++ 0 ∷ []) ∷ []) (End ∷ second ∷ []))
 
--- "Slips that tempt": STRING a1 isn't CHAR, DIGITS. It is one row, so MATCH at position 2 is 5, and MATCH, END is a1 again
+-- such a STRING is one row, so MATCH at position 2 is 5, and MATCH, END is the same name again
+abbrev pub oneRow : List ℕ → Case
+oneRow text = record {
+  kind = Told × Told;
+  given = (matched text Match, matched text End);
+  said = (refusedAt 5 1 (text ++ 10 ∷ []), passes 1 (text ++ 10 ∷ text ++ 10 ∷ []));
+}
+
+-- "Slips that tempt": STRING a1 isn't CHAR, DIGITS; and STRING A_B, as other writers have it, isn't three CHARs: C-14 splits what is written, not what is read
 abbrev pub slipCases : List Case
-slipCases =
-    record {
-      kind = Told × Told;
-      given = (matched Match, matched End);
-      said = (refusedAt 5 1 (97 ∷ 49 ∷ 10 ∷ []), passes 1 (97 ∷ 49 ∷ 10 ∷ 97 ∷ 49 ∷ 10 ∷ []));
-    }
-    ∷ []
+slipCases = oneRow (97 ∷ 49 ∷ []) ∷ oneRow (65 ∷ 95 ∷ 66 ∷ []) ∷ []

@@ -7,7 +7,7 @@ ghost use lib.Dec.{leb};
 ghost use lib.ListN.{length};
 ghost use Rattle.base.specs.Choice.{pick, both};
 ghost use Rattle.digits.specs.Digits.{printed, padded, fitsWidth};
-ghost use Rattle.classes.specs.Classes.{classOf};
+ghost use Rattle.classes.specs.Classes.{tabledOf};
 ghost use Rattle.spans.specs.Spans.{byteAt, fourAt, textAt};
 ghost use Rattle.block.specs.Block.{sound, allInside};
 ghost use Rattle.listed.specs.Listing.{listedOf};
@@ -68,9 +68,9 @@ pub extern "C" fn leaf_fits(n: u32, width: u32) -> u32
 
 #[no_mangle]
 pub extern "C" fn leaf_class(b: u8) -> u32
-    ensures { λ r. ⌜ r ≡ classOf b ⌝ }
+    ensures { λ r. ⌜ r ≡ tabledOf b ⌝ }
 {
-    classes::class(b) as u32
+    classes::tabled(b) as u32
 }
 
 #[no_mangle]

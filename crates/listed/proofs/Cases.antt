@@ -1,4 +1,4 @@
--- The paper's listing, byte for byte, computed.
+-- The paper's listing, byte for byte, and names with punctuation, computed.
 use Prim.Native.Nat.{ℕ}
 use mathlib.Core.Path.{_≡_, refl}
 use mathlib.Core.List.{List, [], _∷_}
@@ -7,10 +7,10 @@ use Rattle.base.specs.Memory.{part}
 use Rattle.comparing.specs.Same.{same}
 use Rattle.digits.specs.Digits.{low, padded, countWithin, digitCount, printed, isDigit, valueOf, valueFrom}
 use Rattle.base.specs.Every.{every}
-use Rattle.classes.specs.Classes.{isAllowed}
+use Rattle.classes.specs.Classes.{isAllowed, isLetter, classOf}
 use Rattle.spans.specs.Spans.{fourBytes}
 use Rattle.block.specs.Block.{spanOf}
-use Rattle.splitting.specs.Split.{runClass, runEnd, runLimit, runAt, cutAt}
+use Rattle.splitting.specs.Split.{runEnd, runLimit, runAt, cutAt}
 use Rattle.pieces.specs.Pieces.{textPiece, numberPiece, pieceAt}
 use Rattle.rises.specs.Rises.{riseOf}
 use Rattle.choices.specs.Choices.{leanString, leanChar, byRise, leanDigits, byRise0, leanDigits0, lean, choiceAt, choicesFrom, choicesOf}
@@ -46,12 +46,18 @@ shown =
     ∷ 52 ∷ 32 ∷ 110 ∷ 97 ∷ 109 ∷ 101 ∷ 115 ∷ 32 ∷ 53 ∷ 49 ∷ 32 ∷ 98 ∷ 121 ∷ 116 ∷ 101 ∷ 115 ∷ 10
     ∷ []
 
--- the paper's listing; no byte, "0 names 0 bytes"; `A`, then a name with a space, "refused 8 at 1"; `A` without its byte 10, "refused 12"
-pub worked : listedOf run ∷ listedOf [] ∷ listedOf (65 ∷ 10 ∷ 32 ∷ 10 ∷ []) ∷ listedOf (65 ∷ []) ∷ []
+abbrev signed : List ℕ
+signed =
+    48 ∷ 32 ∷ 68 ∷ 73 ∷ 70 ∷ 70 ∷ 32 ∷ 48 ∷ 32 ∷ 67 ∷ 72 ∷ 65 ∷ 82 ∷ 32 ∷ 65 ∷ 32 ∷ 67 ∷ 72 ∷ 65 ∷ 82 ∷ 32 ∷ 95 ∷ 32 ∷ 67 ∷ 72 ∷ 65 ∷ 82 ∷ 32 ∷ 66 ∷ 32 ∷ 69 ∷ 78 ∷ 68 ∷ 10
+    ∷ 49 ∷ 32 ∷ 110 ∷ 97 ∷ 109 ∷ 101 ∷ 115 ∷ 32 ∷ 49 ∷ 50 ∷ 32 ∷ 98 ∷ 121 ∷ 116 ∷ 101 ∷ 115 ∷ 10 ∷ []
+
+-- the paper's listing; no byte, "0 names 0 bytes"; `A`, then a name with a space, "refused 8 at 1"; `A` without its byte 10, "refused 12"; `A_B` (C-14)
+pub worked : listedOf run ∷ listedOf [] ∷ listedOf (65 ∷ 10 ∷ 32 ∷ 10 ∷ []) ∷ listedOf (65 ∷ []) ∷ listedOf (65 ∷ 95 ∷ 66 ∷ 10 ∷ []) ∷ []
     ≡ shown
     ∷ (48 ∷ 32 ∷ 110 ∷ 97 ∷ 109 ∷ 101 ∷ 115 ∷ 32 ∷ 48 ∷ 32 ∷ 98 ∷ 121 ∷ 116 ∷ 101 ∷ 115 ∷ 10 ∷ [])
     ∷ (114 ∷ 101 ∷ 102 ∷ 117 ∷ 115 ∷ 101 ∷ 100 ∷ 32 ∷ 56 ∷ 32 ∷ 97 ∷ 116 ∷ 32 ∷ 49 ∷ 10 ∷ [])
     ∷ (114 ∷ 101 ∷ 102 ∷ 117 ∷ 115 ∷ 101 ∷ 100 ∷ 32 ∷ 49 ∷ 50 ∷ 10 ∷ [])
+    ∷ signed
     ∷ []
-unfolding pick part low padded countWithin digitCount printed isDigit every isAllowed valueOf valueFrom fourBytes spanOf runClass runEnd runLimit runAt cutAt textPiece numberPiece pieceAt same riseOf leanString leanChar byRise leanDigits byRise0 leanDigits0 lean choiceAt choicesFrom choicesOf anew referenceOf leansOn share contentOf joined startIn totalOf namesAfter namesOf ended goodName judgedFrom numbersOf typeNumber pieceType choiceType piecePuts valuePuts choicePuts tokenPuts headPuts referencePuts namePuts putsFrom putsOf countable refusedWord atWord stringWord charWord digitsWord digits0Word deltaWord delta0Word matchWord endWord dupWord diffWord namesWord bytesWord slash newline stringText charText paddedText pieceText choiceText tokensText referenceText nameText lineOf linesFrom linesOf refusalText totalsText answerText judgedAnswer answerOf listingOf listedOf
+unfolding pick part low padded countWithin digitCount printed isDigit every isAllowed valueOf valueFrom fourBytes spanOf classOf isLetter runEnd runLimit runAt cutAt textPiece numberPiece pieceAt same riseOf leanString leanChar byRise leanDigits byRise0 leanDigits0 lean choiceAt choicesFrom choicesOf anew referenceOf leansOn share contentOf joined startIn totalOf namesAfter namesOf ended goodName judgedFrom numbersOf typeNumber pieceType choiceType piecePuts valuePuts choicePuts tokenPuts headPuts referencePuts namePuts putsFrom putsOf countable refusedWord atWord stringWord charWord digitsWord digits0Word deltaWord delta0Word matchWord endWord dupWord diffWord namesWord bytesWord slash newline stringText charText paddedText pieceText choiceText tokensText referenceText nameText lineOf linesFrom linesOf refusalText totalsText answerText judgedAnswer answerOf listingOf listedOf
 worked = refl

@@ -7,10 +7,11 @@ use borrow.Author.Tests.{eqb-true, eqb-false}
 use lib.Dec.{eqb}
 use lib.ListN.{length, getD}
 use Rattle.base.proofs.Choice.{by-test, pick-true, pick-false, pick-either}
+use Rattle.classes.specs.Classes.{digitClass, classOf}
 use Rattle.tokens.specs.declared.Padded.{Padded}
 use Rattle.pieces.specs.declared.Piece.{Piece}
 use Rattle.pieces.specs.declared.Piece.the-variants.{String, Char, Digits, Digits0}
-use Rattle.splitting.specs.Split.{runClass, runAt, cutAt}
+use Rattle.splitting.specs.Split.{runAt, cutAt}
 use Rattle.pieces.specs.Pieces.{textPiece, numberPiece, pieceAt, Within}
 use Rattle.splitting.proofs.Runs.{run-number, cut-last, cut-run, cut-range}
 
@@ -22,7 +23,7 @@ module _ (P : Piece → Type 0) (s : List ℕ) (p at : ℕ) (h : at < length s)
   unfolding textPiece
   text-case = pick-either P (eqb (cutAt s p at) (at + 1)) _ _ char string
 
-  number-case : runClass (getD s at 0) ≡ 1 → P (numberPiece s at (runAt s at))
+  number-case : classOf (getD s at 0) ≡ digitClass → P (numberPiece s at (runAt s at))
   unfolding numberPiece
   number-case e = pick-either P (eqb (getD s at 0) 48) _ _ (digits0 _ (run-number s at h e .0)) (digits _)
 
@@ -30,7 +31,7 @@ module _ (P : Piece → Type 0) (s : List ℕ) (p at : ℕ) (h : at < length s)
   unfolding pieceAt
   piece-cases = by-test (eqb p 127)
       (λ e. subst P (sym (pick-true _ _ e)) (subst (λ (n : ℕ). P (textPiece s at n)) (cut-last s at h p (eqb-true _ _ e)) text-case))
-      (λ e. subst P (sym (pick-false _ _ e)) (by-test (eqb (runClass (getD s at 0)) 1)
+      (λ e. subst P (sym (pick-false _ _ e)) (by-test (eqb (classOf (getD s at 0)) digitClass)
       (λ d. subst P (sym (pick-true _ _ d)) (number-case (eqb-true _ _ d)))
       (λ d. subst P (sym (pick-false _ _ d)) (subst (λ (n : ℕ). P (textPiece s at n)) (cut-run s at h p (eqb-false _ _ e)) text-case))))
 

@@ -6,9 +6,10 @@ use lib.ListN.{length, getD}
 use Rattle.base.specs.Choice.{pick}
 use Rattle.base.specs.Memory.{part}
 use Rattle.digits.specs.Digits.{valueOf}
+use Rattle.classes.specs.Classes.{digitClass, classOf}
 use Rattle.pieces.specs.declared.Piece.{Piece}
 use Rattle.pieces.specs.declared.Piece.the-variants.{String, Char, Digits, Digits0}
-use Rattle.splitting.specs.Split.{runClass, runAt}
+use Rattle.splitting.specs.Split.{runAt}
 
 -- CHAR if it is one byte, else STRING
 unfoldable pub textPiece : List ℕ → ℕ → ℕ → Piece
@@ -25,7 +26,7 @@ numberPiece s at end =
 unfoldable pub pieceAt : List ℕ → ℕ → ℕ → Piece
 pieceAt s p at =
     pick (eqb p 127) (textPiece s at (length s))
-    (pick (eqb (runClass (getD s at 0)) 1) (numberPiece s at (runAt s at)) (textPiece s at (runAt s at)))
+    (pick (eqb (classOf (getD s at 0)) digitClass) (numberPiece s at (runAt s at)) (textPiece s at (runAt s at)))
 
 -- a token whose bytes, if it is a STRING, lie in the name, and whose width, if it has one, is a byte
 abbrev pub Within : List ℕ → Piece → Type 0

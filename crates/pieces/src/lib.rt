@@ -8,6 +8,7 @@ ghost use Rattle.classes.specs.Classes.{classTable};
 ghost use Rattle.splitting.specs.Split.{cutOf};
 ghost use Rattle.pieces.specs.Pieces.{textPiece, numberPiece, pieceAt};
 ghost use Rattle.base.specs.Lent.{lent};
+use classes::DIGIT;
 use spans::Position;
 use splitting::Cut;
 use splitting::LAST;
@@ -51,7 +52,7 @@ pub fn piece_at(table: &[u8; 256], name: &[u8], p: Position, at: usize, cut: Cut
     if p.0 == LAST {
         return text_piece(name, at, cut.end);
     }
-    if splitting::run_class(table, name[at]) == 1 {
+    if classes::class_in(table, name[at]) == DIGIT {
         return number_piece(name, at, cut.end, cut.number);
     }
     text_piece(name, at, cut.end)

@@ -16,11 +16,11 @@ use Rattle.digits.specs.Digits.{fitsWidth, valueOf, allDigits}
 use Rattle.base.proofs.Every.{every-at}
 use Rattle.base.proofs.Lists.{part-first, part-none}
 use Rattle.digits.proofs.Laws.{value-below, padded-value, printed-value, fits-of, fits-nine}
-use Rattle.classes.specs.Classes.{isAllowed, allAllowed}
+use Rattle.classes.specs.Classes.{digitClass, isAllowed, allAllowed, classOf}
 use Rattle.tables.specs.declared.Row.{Row}
 use Rattle.pieces.specs.declared.Piece.{Piece}
 use Rattle.pieces.specs.declared.Piece.the-variants.{String, Char, Digits, Digits0}
-use Rattle.splitting.specs.Split.{runClass, runAt, cutAt}
+use Rattle.splitting.specs.Split.{runAt, cutAt}
 use Rattle.pieces.specs.Pieces.{textPiece, numberPiece, pieceAt}
 use Rattle.splitting.proofs.Runs.{run-range, run-number, cut-last, cut-run}
 use Rattle.roundtrip.specs.Rows.{pieceBytes, pieceRow, rowsFrom, countFrom}
@@ -73,7 +73,7 @@ module _ (s : List ℕ) (good : allAllowed s ≡ true) (at : ℕ) where
       })
 
   module _ (h : at < length s) where
-    number-cut : runClass (getD s at 0) ≡ 1 → Cut s at (runAt s at) (numberPiece s at (runAt s at))
+    number-cut : classOf (getD s at 0) ≡ digitClass → Cut s at (runAt s at) (numberPiece s at (runAt s at))
     unfolding numberPiece pieceBytes
     number-cut e =
         let end : ℕ = runAt s at in
@@ -104,7 +104,7 @@ module _ (s : List ℕ) (good : allAllowed s ≡ true) (at : ℕ) where
         (λ t. rw (cut-last s at h p (eqb-true _ _ t)) (text-cut (length s) h (omega arith)))
         (λ t.
         rw (cut-run s at h p (eqb-false _ _ t))
-        (pick-holds (Cut s at (runAt s at)) (eqb (runClass (getD s at 0)) 1) _ _
+        (pick-holds (Cut s at (runAt s at)) (eqb (classOf (getD s at 0)) digitClass) _ _
         (λ g. number-cut (eqb-true _ _ g))
         (λ g. text-cut (runAt s at) (r .0) (r .1))))
 

@@ -1,4 +1,5 @@
 -- Demand 2: "Writing gives exactly the streams of document 01's writing rule; given room, reading those gives the same names back."
+-- The writing rule is read with C-14, by which names are split (splitting/specs/Rule, pieces/specs/Becomes).
 use Prim.Native.Nat.{ℕ, _*_, _≤_}
 use mathlib.Core.Path.{_≡_}
 use mathlib.Core.List.{List, []}

@@ -11,13 +11,15 @@ use Rattle.base.proofs.Choice.{pick-true, pick-false, by-test}
 use Rattle.digits.specs.Digits.{valueFrom, valueOf}
 use Rattle.digits.proofs.Laws.{digit-range}
 use Rattle.digits.proofs.Steps.{value-more, value-last, ten-more, below-eight}
+use Rattle.classes.specs.Classes.{digitClass, letterClass, classOf}
+use Rattle.classes.proofs.Laws.{digit-class}
 use Rattle.splitting.specs.declared.Cut.{Cut}
-use Rattle.splitting.specs.Split.{runClass, runEnd, runLimit, runAt, cutAt, numberRun, cutOf}
-use Rattle.splitting.proofs.Runs.{digit-run, run-here, run-next, run-out, run-low, run-high, cut-run}
+use Rattle.splitting.specs.Split.{runEnd, runLimit, runAt, cutAt, numberRun, cutOf}
+use Rattle.splitting.proofs.Runs.{run-here, run-next, run-out, run-low, run-high, cut-run, some-letters, no-letters}
 
 -- A run of digits
 
-number-end : (s : List ℕ) (at : ℕ) → runClass (getD s at 0) ≡ 1 → numberRun s at (runLimit s at - at) .end ≡ runAt s at
+number-end : (s : List ℕ) (at : ℕ) → classOf (getD s at 0) ≡ digitClass → numberRun s at (runLimit s at - at) .end ≡ runAt s at
 unfolding numberRun runAt
 number-end s at e = rw e
 
@@ -26,8 +28,8 @@ pub record Said (s : List ℕ) (at to n i : ℕ) : Type 0 where
   pub begun : at ≤ i
   pub within : i ≤ to
   pub small : n < 10 ^ (i - at)
-  pub ends : runEnd s 1 i (to - i) ≡ runEnd s 1 at (to - at)
-  pub rest : valueFrom n (part s i (runEnd s 1 at (to - at))) ≡ valueOf (part s at (runEnd s 1 at (to - at)))
+  pub ends : runEnd s digitClass i (to - i) ≡ runEnd s digitClass at (to - at)
+  pub rest : valueFrom n (part s i (runEnd s digitClass at (to - at))) ≡ valueOf (part s at (runEnd s digitClass at (to - at)))
 
 pub said-nothing : (s : List ℕ) (at to : ℕ) → at ≤ to → Said s at to 0 at
 unfolding valueOf
@@ -37,7 +39,7 @@ said-nothing s at to h =
 
 module _ (s : List ℕ) (at to n i : ℕ) (k : Said s at to n i) (h : to ≤ length s) where
   all : ℕ
-  all = runEnd s 1 at (to - at)
+  all = runEnd s digitClass at (to - at)
 
   said : all ≡ i → (let c : Cut = record { end = i; number = n } in c) ≡ numberRun s at (to - at)
   unfolding all numberRun
@@ -46,29 +48,29 @@ module _ (s : List ℕ) (at to n i : ℕ) (k : Said s at to n i) (h : to ≤ len
       let v : n ≡ valueOf (part s at all) = value-last s i all n _ (omega arith) (k .rest) in
       ap (λ (x : ℕ). c x n) (sym e) ∙ ap (c all) v
 
-  pub said-here : i < to → (runClass (getD s i 0) ≡ 1 → ⊥) → (let c : Cut = record { end = i; number = n } in c) ≡ numberRun s at (to - at)
+  pub said-here : i < to → (classOf (getD s i 0) ≡ digitClass → ⊥) → (let c : Cut = record { end = i; number = n } in c) ≡ numberRun s at (to - at)
   unfolding all
-  said-here l f = said (sym (k .ends) ∙ run-here s 1 i to l f)
+  said-here l f = said (sym (k .ends) ∙ run-here s digitClass i to l f)
 
   pub said-out : to ≤ i → (let c : Cut = record { end = i; number = n } in c) ≡ numberRun s at (to - at)
   unfolding all
-  said-out l = said (sym (k .ends) ∙ run-out s 1 i to l)
+  said-out l = said (sym (k .ends) ∙ run-out s digitClass i to l)
 
   pub said-small : i < to → to - at ≤ 9 → n < 10 ^ 8
   said-small l m = let b : at ≤ i = k .begun in below-eight n (i - at) (omega arith) (k .small)
 
-  module _ (l : i < to) (e : runClass (getD s i 0) ≡ 1) where
+  module _ (l : i < to) (e : classOf (getD s i 0) ≡ digitClass) where
     pub said-digit : (48 ≤ getD s i 0) × (getD s i 0 ≤ 57)
-    said-digit = digit-range (getD s i 0) (digit-run (getD s i 0) e)
+    said-digit = digit-range (getD s i 0) (digit-class (getD s i 0) e)
 
     pub said-more : Said s at to (10 * n + (getD s i 0 - 48)) (i + 1)
     unfolding all
     said-more =
         let b : at ≤ i = k .begun in
         let d = said-digit in
-        let j : runEnd s 1 (i + 1) (to - (i + 1)) ≡ all = run-next s 1 i to l e ∙ k .ends in
-        let low : i < all = omega (arith, j, run-low s 1 (to - (i + 1)) (i + 1)) in
-        let high : all ≤ length s = omega (arith, run-high s 1 (to - at) at) in
+        let j : runEnd s digitClass (i + 1) (to - (i + 1)) ≡ all = run-next s digitClass i to l e ∙ k .ends in
+        let low : i < all = omega (arith, j, run-low s digitClass (to - (i + 1)) (i + 1)) in
+        let high : all ≤ length s = omega (arith, run-high s digitClass (to - at) at) in
         record {
           begun = omega arith;
           within = omega arith;
@@ -86,17 +88,32 @@ end-of s p at =
     by-test (ltb at (length s))
     (λ h. by-test (eqb p 127)
     (λ e. ap to (pick-true _ _ h ∙ pick-true _ _ e) ∙ sym (pick-true _ _ h ∙ pick-true _ _ e))
-    (λ e. by-test (eqb (runClass (getD s at 0)) 1)
+    (λ e. by-test (eqb (classOf (getD s at 0)) digitClass)
     (λ k. ap to (pick-true _ _ h ∙ pick-false _ _ e ∙ pick-true _ _ k) ∙ number-end s at (eqb-true _ _ k) ∙ sym (pick-true _ _ h ∙ pick-false _ _ e))
     (λ k. ap to (pick-true _ _ h ∙ pick-false _ _ e ∙ pick-false _ _ k) ∙ sym (pick-true _ _ h ∙ pick-false _ _ e))))
     (λ h. ap to (pick-false _ _ h) ∙ sym (pick-false _ _ h))
+
+-- where no number begins, letters are looked for: they are cut behind the last, and without any the byte stands alone
+module _ (s : List ℕ) (p at e : ℕ) (h : at < length s) (n : p ≡ 127 → ⊥) (f : classOf (getD s at 0) ≡ digitClass → ⊥)
+    (r : e ≡ runEnd s letterClass at (length s - at)) where
+  plain : {end : ℕ} → end ≡ runAt s at → (let c : Cut = record { end = end; number = 0 } in c) ≡ cutOf s p at
+  unfolding cutOf
+  plain q =
+      let to : ℕ → Cut = λ x. record { end = x; number = 0 } in
+      ap to q ∙ sym (pick-true _ _ (lt-ltb _ _ h) ∙ pick-false _ _ (ne-eqb _ _ n) ∙ pick-false _ _ (ne-eqb _ _ f))
+
+  pub cut-alone : e ≡ at → (let c : Cut = record { end = at + 1; number = 0 } in c) ≡ cutOf s p at
+  cut-alone q = plain (no-letters s at h e r f q)
+
+  pub cut-letters : (e ≡ at → ⊥) → (let c : Cut = record { end = e; number = 0 } in c) ≡ cutOf s p at
+  cut-letters q = plain (some-letters s at h e r q)
 
 module _ (s : List ℕ) (p at : ℕ) {c : Cut} (q : c ≡ cutOf s p at) where
   pub cut-end : c .end ≡ cutAt s p at
   cut-end = ap (λ (x : Cut). x .end) q ∙ end-of s p at
 
   -- a number is cut behind what it says
-  pub cut-number : at < length s → (p ≡ 127 → ⊥) → runClass (getD s at 0) ≡ 1 → c .number ≡ valueOf (part s at (cutAt s p at))
+  pub cut-number : at < length s → (p ≡ 127 → ⊥) → classOf (getD s at 0) ≡ digitClass → c .number ≡ valueOf (part s at (cutAt s p at))
   unfolding cutOf numberRun
   cut-number h f e =
       ap (λ (x : Cut). x .number) (q ∙ pick-true _ _ (lt-ltb _ _ h) ∙ pick-false _ _ (ne-eqb _ _ f) ∙ pick-true _ _ (eq-eqb _ _ e))

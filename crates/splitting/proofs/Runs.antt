@@ -10,23 +10,17 @@ use lib.Dec.{eqb}
 use lib.ListN.{length, getD}
 use Rattle.base.specs.Choice.{pick}
 use Rattle.base.specs.Memory.{part}
-use Rattle.base.proofs.Choice.{pick-true, pick-false, both-of, by-test}
-use Rattle.base.proofs.Numbers.{lt-or-ge}
+use Rattle.base.proofs.Choice.{pick-true, pick-false, by-test}
+use Rattle.base.proofs.Numbers.{lt-or-ge, here-or-later}
 use Rattle.digits.specs.Digits.{isDigit, allDigits}
-use Rattle.base.proofs.Every.{every-none, every-part}
-use Rattle.base.proofs.Lists.{part-none}
-use Rattle.splitting.specs.Split.{runClass, runEnd, runLimit, runAt, cutAt}
-
-pub digit-run : (b : ℕ) → runClass b ≡ 1 → isDigit b ≡ true
-unfolding runClass
-digit-run b e = by-test (isDigit b) (λ d. d) (λ d. absurd (omega (arith, pick-false {A = ℕ} 1 0 d)))
-
-pub other-run : (b : ℕ) → (runClass b ≡ 1 → ⊥) → runClass b ≡ 0
-unfolding runClass
-other-run b f = by-test (isDigit b) (λ d. absurd (f (pick-true {A = ℕ} 1 0 d))) (λ d. pick-false {A = ℕ} 1 0 d)
+use Rattle.classes.specs.Classes.{digitClass, letterClass, classOf}
+use Rattle.classes.proofs.Laws.{digit-class}
+use Rattle.base.proofs.Every.{every-of}
+use Rattle.base.proofs.Memory.{length-part, getD-part}
+use Rattle.splitting.specs.Split.{runEnd, runLimit, runAt, cutAt}
 
 module _ (s : List ℕ) (k : ℕ) where
-  step : (i n m : ℕ) → m ≡ suc n → runEnd s k i m ≡ pick (eqb (runClass (getD s i 0)) k) (runEnd s k (i + 1) n) i
+  step : (i n m : ℕ) → m ≡ suc n → runEnd s k i m ≡ pick (eqb (classOf (getD s i 0)) k) (runEnd s k (i + 1) n) i
   unfolding runEnd
   step i n m e = rw e
 
@@ -37,85 +31,120 @@ module _ (s : List ℕ) (k : ℕ) where
   pub run-out : (i to : ℕ) → to ≤ i → runEnd s k i (to - i) ≡ i
   run-out i to h = none i (to - i) (omega arith)
 
-  pub run-here : (i to : ℕ) → i < to → (runClass (getD s i 0) ≡ k → ⊥) → runEnd s k i (to - i) ≡ i
+  pub run-here : (i to : ℕ) → i < to → (classOf (getD s i 0) ≡ k → ⊥) → runEnd s k i (to - i) ≡ i
   run-here i to h f = step i (to - (i + 1)) (to - i) (omega arith) ∙ pick-false _ _ (ne-eqb _ _ f)
 
-  pub run-next : (i to : ℕ) → i < to → runClass (getD s i 0) ≡ k → runEnd s k (i + 1) (to - (i + 1)) ≡ runEnd s k i (to - i)
+  pub run-next : (i to : ℕ) → i < to → classOf (getD s i 0) ≡ k → runEnd s k (i + 1) (to - (i + 1)) ≡ runEnd s k i (to - i)
   run-next i to h e = sym (step i (to - (i + 1)) (to - i) (omega arith) ∙ pick-true _ _ (eq-eqb _ _ e))
 
   pub run-low : (n i : ℕ) → i ≤ runEnd s k i n
   run-low zero i = omega (arith, none i 0 refl)
-  run-low (suc n) i = by-test (eqb (runClass (getD s i 0)) k)
+  run-low (suc n) i = by-test (eqb (classOf (getD s i 0)) k)
       (λ e. omega (arith, step i n (suc n) refl, pick-true (runEnd s k (i + 1) n) i e, run-low n (i + 1)))
       (λ e. omega (arith, step i n (suc n) refl, pick-false (runEnd s k (i + 1) n) i e))
 
   pub run-high : (n i : ℕ) → runEnd s k i n ≤ i + n
   run-high zero i = omega (arith, none i 0 refl)
-  run-high (suc n) i = by-test (eqb (runClass (getD s i 0)) k)
+  run-high (suc n) i = by-test (eqb (classOf (getD s i 0)) k)
       (λ e. omega (arith, step i n (suc n) refl, pick-true (runEnd s k (i + 1) n) i e, run-high n (i + 1)))
       (λ e. omega (arith, step i n (suc n) refl, pick-false (runEnd s k (i + 1) n) i e))
 
   -- a run has the byte that it begins with
-  pub run-first : (i to : ℕ) → i < to → runClass (getD s i 0) ≡ k → i < runEnd s k i (to - i)
+  pub run-first : (i to : ℕ) → i < to → classOf (getD s i 0) ≡ k → i < runEnd s k i (to - i)
   run-first i to h e = omega (arith, run-next i to h e, run-low (to - (i + 1)) (i + 1))
 
-pub run-digits : (s : List ℕ) (n i : ℕ) → i + n ≤ length s → allDigits (part s i (runEnd s 1 i n)) ≡ true
-run-digits s zero i h = ap (λ (e : ℕ). allDigits (part s i e)) (none s 1 i 0 refl) ∙ ap allDigits (part-none s i i (omega arith)) ∙ every-none isDigit
-run-digits s (suc n) i h = by-test (eqb (runClass (getD s i 0)) 1)
+-- a run's bytes are all of its class
+pub run-class : (s : List ℕ) (k n i j : ℕ) → i ≤ j → j < runEnd s k i n → classOf (getD s j 0) ≡ k
+run-class s k zero i j h l = absurd (omega (arith, none s k i 0 refl))
+run-class s k (suc n) i j h l = by-test (eqb (classOf (getD s i 0)) k)
     (λ e.
-    let r : ℕ = runEnd s 1 (i + 1) n in
-    let low : i < r = omega (arith, run-low s 1 n (i + 1)) in
-    let high : r ≤ length s = omega (arith, run-high s 1 n (i + 1)) in
-    ap (λ (e : ℕ). allDigits (part s i e)) (step s 1 i n (suc n) refl ∙ pick-true r i e)
-    ∙ every-part isDigit s i r low high
-    ∙ both-of (digit-run _ (eqb-true _ _ e)) (run-digits s n (i + 1) (omega arith)))
-    (λ e. ap (λ (e : ℕ). allDigits (part s i e)) (step s 1 i n (suc n) refl ∙ pick-false (runEnd s 1 (i + 1) n) i e)
-    ∙ ap allDigits (part-none s i i (omega arith)) ∙ every-none isDigit)
+    let m : j < runEnd s k (i + 1) n = omega (arith, step s k i n (suc n) refl, pick-true (runEnd s k (i + 1) n) i e) in
+    here-or-later (λ (j : ℕ). classOf (getD s j 0) ≡ k) i j h (eqb-true _ _ e) (λ g. run-class s k n (i + 1) j g m))
+    (λ e. absurd (omega (arith, step s k i n (suc n) refl, pick-false (runEnd s k (i + 1) n) i e)))
+
+-- and where it ends before it has to, another class begins
+pub run-stop : (s : List ℕ) (k n i : ℕ) → runEnd s k i n < i + n → classOf (getD s (runEnd s k i n) 0) ≡ k → ⊥
+run-stop s k zero i l = absurd (omega (arith, none s k i 0 refl))
+run-stop s k (suc n) i l = by-test (eqb (classOf (getD s i 0)) k)
+    (λ e.
+    let q : runEnd s k i (suc n) ≡ runEnd s k (i + 1) n = step s k i n (suc n) refl ∙ pick-true _ _ e in
+    rw q (run-stop s k n (i + 1) (omega arith)))
+    (λ e.
+    let q : runEnd s k i (suc n) ≡ i = step s k i n (suc n) refl ∙ pick-false _ _ e in
+    rw q (eqb-false _ _ e))
+
+pub run-digits : (s : List ℕ) (n i : ℕ) → i + n ≤ length s → allDigits (part s i (runEnd s digitClass i n)) ≡ true
+run-digits s n i h =
+    let r : ℕ = runEnd s digitClass i n in
+    every-of isDigit (part s i r) (λ j l.
+    let m : j < r - i = omega (arith, length-part s i r (run-low s digitClass n i) (omega (arith, run-high s digitClass n i))) in
+    ap isDigit (getD-part s i r j m) ∙ digit-class _ (run-class s digitClass n i (i + j) (omega arith) (omega arith)))
 
 -- a token of a name at a place in it
 module _ (s : List ℕ) (at : ℕ) (h : at < length s) where
-  pub limit-nine : runClass (getD s at 0) ≡ 1 → at + 9 < length s → runLimit s at ≡ at + 9
+  pub limit-nine : classOf (getD s at 0) ≡ digitClass → at + 9 < length s → runLimit s at ≡ at + 9
   unfolding runLimit
   limit-nine e l = pick-true _ _ (eq-eqb _ _ e) ∙ pick-true _ _ (lt-ltb _ _ l)
 
-  pub limit-short : runClass (getD s at 0) ≡ 1 → length s ≤ at + 9 → runLimit s at ≡ length s
+  pub limit-short : classOf (getD s at 0) ≡ digitClass → length s ≤ at + 9 → runLimit s at ≡ length s
   unfolding runLimit
   limit-short e l = pick-true _ _ (eq-eqb _ _ e) ∙ pick-false _ _ (le-ltb _ _ l)
 
-  pub limit-other : (runClass (getD s at 0) ≡ 1 → ⊥) → runLimit s at ≡ length s
+  pub limit-letters : classOf (getD s at 0) ≡ letterClass → runLimit s at ≡ length s
   unfolding runLimit
-  limit-other f = pick-false _ _ (ne-eqb _ _ f)
+  limit-letters e = let f : classOf (getD s at 0) ≡ digitClass → ⊥ = λ g. omega arith in pick-false _ _ (ne-eqb _ _ f) ∙ pick-true _ _ (eq-eqb _ _ e)
 
-  pub limit-digits : runClass (getD s at 0) ≡ 1 → (at < runLimit s at) × ((runLimit s at ≤ length s) × (runLimit s at - at ≤ 9))
+  pub limit-alone : (classOf (getD s at 0) ≡ digitClass → ⊥) → (classOf (getD s at 0) ≡ letterClass → ⊥) → runLimit s at ≡ at + 1
+  unfolding runLimit
+  limit-alone f g = pick-false _ _ (ne-eqb _ _ f) ∙ pick-false _ _ (ne-eqb _ _ g)
+
+  pub limit-digits : classOf (getD s at 0) ≡ digitClass → (at < runLimit s at) × ((runLimit s at ≤ length s) × (runLimit s at - at ≤ 9))
   limit-digits e = ⊎-elim (λ l. omega (arith, limit-nine e l)) (λ l. omega (arith, limit-short e l)) (lt-or-ge (at + 9) (length s))
 
   pub limit-range : (at < runLimit s at) × (runLimit s at ≤ length s)
-  limit-range = by-test (eqb (runClass (getD s at 0)) 1)
+  limit-range = by-test (eqb (classOf (getD s at 0)) digitClass)
       (λ e. let d = limit-digits (eqb-true _ _ e) in (d .0, d .1 .0))
-      (λ e. omega (arith, limit-other (eqb-false _ _ e)))
+      (λ e. by-test (eqb (classOf (getD s at 0)) letterClass)
+      (λ g. omega (arith, limit-letters (eqb-true _ _ g)))
+      (λ g. omega (arith, limit-alone (eqb-false _ _ e) (eqb-false _ _ g))))
 
   pub run-range : (at < runAt s at) × (runAt s at ≤ length s)
   unfolding runAt
   run-range =
       let l = limit-range in
-      let k : ℕ = runClass (getD s at 0) in (
+      let k : ℕ = classOf (getD s at 0) in (
         run-first s k at (runLimit s at) (l .0) refl,
         omega (arith, run-high s k (runLimit s at - at) at),
       )
 
-  -- the byte that a run begins with isn't asked again
-  pub run-goes : {k to e : ℕ} → runClass (getD s at 0) ≡ k → to ≡ runLimit s at → e ≡ runEnd s k (at + 1) (to - (at + 1)) → e ≡ runAt s at
+  -- a byte that is no digit and no letter stands alone
+  pub run-alone : (classOf (getD s at 0) ≡ digitClass → ⊥) → (classOf (getD s at 0) ≡ letterClass → ⊥) → at + 1 ≡ runAt s at
   unfolding runAt
-  run-goes {k} {to} {e} c l r =
-      let n : at < to = omega (arith, limit-range .0, l) in
-      rw (c, ← l) (r ∙ run-next s k at to n c)
+  run-alone f g =
+      let l : runLimit s at ≡ at + 1 = limit-alone f g in
+      let k : ℕ = classOf (getD s at 0) in
+      omega (arith, run-range, run-high s k (runLimit s at - at) at)
+
+  -- where a run of letters is looked for, and there is one, or none
+  module _ (e : ℕ) (r : e ≡ runEnd s letterClass at (length s - at)) where
+    pub some-letters : (e ≡ at → ⊥) → e ≡ runAt s at
+    unfolding runAt
+    some-letters n =
+        let l : at < runEnd s letterClass at (length s - at) = omega (arith, n, run-low s letterClass (length s - at) at) in
+        let c : classOf (getD s at 0) ≡ letterClass = run-class s letterClass (length s - at) at at (omega arith) l in
+        rw (c, limit-letters c) r
+
+    pub no-letters : (classOf (getD s at 0) ≡ digitClass → ⊥) → e ≡ at → at + 1 ≡ runAt s at
+    no-letters f n =
+        let g : classOf (getD s at 0) ≡ letterClass → ⊥ = λ c. omega (arith, run-first s letterClass at (length s) h c) in
+        run-alone f g
 
   -- a run of digits has at most 9 bytes, all digits
-  pub run-number : runClass (getD s at 0) ≡ 1 → (runAt s at - at ≤ 9) × (allDigits (part s at (runAt s at)) ≡ true)
+  pub run-number : classOf (getD s at 0) ≡ digitClass → (runAt s at - at ≤ 9) × (allDigits (part s at (runAt s at)) ≡ true)
   unfolding runAt
   run-number e =
       let d = limit-digits e in
-      rw e (omega (arith, run-high s 1 (runLimit s at - at) at), run-digits s (runLimit s at - at) at (omega arith))
+      rw e (omega (arith, run-high s digitClass (runLimit s at - at) at), run-digits s (runLimit s at - at) at (omega arith))
 
   pub cut-last : (p : ℕ) → p ≡ 127 → cutAt s p at ≡ length s
   unfolding cutAt

@@ -3,10 +3,12 @@
 ghost use mathlib.Core.Path.{_≡_};
 ghost use Prim.Native.Nat.{_≤_, _<_, _-_};
 ghost use lib.ListN.{length, getD};
-ghost use Rattle.classes.specs.Classes.{classTable};
-ghost use Rattle.splitting.specs.Split.{runClass, runEnd, numberRun, runLimit, cutOf};
+ghost use Rattle.classes.specs.Classes.{digitClass, classOf, classTable};
+ghost use Rattle.splitting.specs.Split.{runEnd, numberRun, runLimit, cutOf};
 ghost use Rattle.base.specs.Lent.{lent};
 use block::Block;
+use classes::DIGIT;
+use classes::LETTER;
 use spans::Position;
 
 // The last position of a token; END comes behind it.
@@ -18,27 +20,15 @@ pub struct Cut {
     pub number: u32,
 }
 
-// The class by which a byte belongs to a run.
-pub fn run_class(table: &[u8; 256], b: u8) -> u8
-    requires { ⌜ now table ≡ classTable ⌝ }
-    ensures { λ r. ⌜ r ≡ runClass b ⌝ }
-{
-    if classes::class_in(table, b) == 2 {
-        1
-    } else {
-        0
-    }
-}
-
-// Where a run of bytes that are no digits ends.
-fn run_end(table: &[u8; 256], name: &[u8], at: usize) -> usize
+// Where a run of a class ends.
+fn run_end(table: &[u8; 256], name: &[u8], class: u8, at: usize) -> usize
     requires { ⌜ now table ≡ classTable ⌝ }
     requires { ⌜ at ≤ length (now name) ⌝ }
-    ensures { λ r. ⌜ r ≡ runEnd (lent name) 0 at (length (lent name) - at) ⌝ }
+    ensures { λ r. ⌜ r ≡ runEnd (lent name) class at (length (lent name) - at) ⌝ }
 {
     let mut i = at;
     while i < name.len() {
-        if run_class(table, name[i]) != 0 {
+        if classes::class_in(table, name[i]) != class {
             return i;
         }
         i += 1;
@@ -56,7 +46,7 @@ fn number_run(table: &[u8; 256], name: &[u8], at: usize, to: usize) -> Cut
     let mut i = at;
     while i < to {
         let b = name[i];
-        if run_class(table, b) != 1 {
+        if classes::class_in(table, b) != DIGIT {
             return Cut { end: i, number: n };
         }
         n = 10 * n + (b as u32 - 48);
@@ -67,7 +57,7 @@ fn number_run(table: &[u8; 256], name: &[u8], at: usize, to: usize) -> Cut
 
 // A run of digits is cut after 9.
 fn digits_limit(name: &[u8], at: usize) -> usize
-    requires { ⌜ (at < length (now name)) × (runClass (getD (now name) at 0) ≡ 1) ⌝ }
+    requires { ⌜ (at < length (now name)) × (classOf (getD (now name) at 0) ≡ digitClass) ⌝ }
     ensures { λ r. ⌜ r ≡ runLimit (lent name) at ⌝ }
 {
     let digits = Block::DIGITS as usize;
@@ -91,9 +81,18 @@ pub fn cut_at(table: &[u8; 256], name: &[u8], p: Position, at: usize) -> Cut
             number: 0,
         };
     }
-    if run_class(table, name[at]) == 1 {
+    let class = classes::class_in(table, name[at]);
+    if class == DIGIT {
         return number_run(table, name, at, digits_limit(name, at));
     }
-    let end = run_end(table, name, at + 1);
+    // Where no letter begins, the byte stands alone.
+    let end = run_end(table, name, LETTER, at);
+    if end == at {
+        let next = at + 1;
+        return Cut {
+            end: next,
+            number: 0,
+        };
+    }
     Cut { end, number: 0 }
 }

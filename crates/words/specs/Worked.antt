@@ -1,4 +1,4 @@
--- The paper's example, as a writer's streams: run7:0098, run7:0099, run7:0100 and the last once more.
+-- The paper's example, as a writer's streams: run7:0098, run7:0099, run7:0100 and the last once more; and a STRING of other writers that ours would split.
 use Prim.Native.Nat.{ℕ}
 use mathlib.Core.List.{List, [], _∷_}
 use Rattle.block.specs.Block.{spanOf}
@@ -43,3 +43,22 @@ says = record { names = run 98 0 ∷ run 99 1 ∷ run 100 1 ∷ run 100 1 ∷ []
 
 abbrev pub saying : Telling
 saying = namesFrom (rulesOf draftPlain) 4 [] streams
+
+-- C-14 splits what is written, not what is read: STRING A_B, and MATCH of it, are names of one token
+abbrev pub unsplit : Spans
+unsplit =
+    given 0 typeStream (6 ∷ 6 ∷ [])
+    (given 0 diffStream (0 ∷ 0 ∷ 0 ∷ 0 ∷ 1 ∷ 0 ∷ 0 ∷ 0 ∷ [])
+    (given 1 typeStream (1 ∷ 13 ∷ [])
+    (given 1 stringStream (65 ∷ 95 ∷ 66 ∷ 0 ∷ [])
+    (given 2 typeStream (14 ∷ 14 ∷ [])
+    nothing))))
+
+abbrev pub whole : ℕ → Name
+whole distance = record { tokens = string (65 ∷ 95 ∷ 66 ∷ []) ∷ []; distance = distance }
+
+abbrev pub saysWhole : Telling
+saysWhole = record { names = whole 0 ∷ whole 1 ∷ []; ending = done }
+
+abbrev pub sayingWhole : Telling
+sayingWhole = namesFrom (rulesOf draftPlain) 2 [] unsplit

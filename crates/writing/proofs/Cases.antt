@@ -8,15 +8,15 @@ use Rattle.base.specs.Memory.{part, written}
 use Rattle.comparing.specs.Same.{same}
 use Rattle.digits.specs.Digits.{isDigit, valueOf, valueFrom}
 use Rattle.base.specs.Every.{every}
-use Rattle.classes.specs.Classes.{isAllowed}
+use Rattle.classes.specs.Classes.{isAllowed, isLetter, classOf}
 use Rattle.spans.specs.Spans.{fourBytes}
 use Rattle.block.specs.Block.{spanOf}
-use Rattle.splitting.specs.Split.{runClass, runEnd, runLimit, runAt, cutAt}
+use Rattle.splitting.specs.Split.{runEnd, runLimit, runAt, cutAt}
 use Rattle.pieces.specs.Pieces.{textPiece, numberPiece, pieceAt}
 use Rattle.rises.specs.Rises.{riseOf}
 use Rattle.choices.specs.Choices.{leanString, leanChar, byRise, leanDigits, byRise0, leanDigits0, lean, choiceAt, choicesFrom, choicesOf}
 use Rattle.references.specs.References.{anew, referenceOf, leansOn}
-use Rattle.laying.specs.Puts.{share, contentOf, joined, startIn, totalOf}
+use Rattle.laying.specs.Puts.{share, contentOf, joined, startIn, totalOf, bytesOf}
 use Rattle.block.specs.declared.Refusal.the-variants.{Plain, At}
 use Rattle.writing.specs.declared.WriteAnswer.{WriteAnswer}
 use Rattle.writing.specs.declared.WriteAnswer.the-variants.{Written, Refused}
@@ -39,8 +39,17 @@ run =
 abbrev answered : List ℕ → ℕ → WriteAnswer
 answered input room = writeOf (rulesOf draftPlain) input (replicate 2580 7) (replicate room 9) .answer
 
--- four names of 51 bytes, with room and without; a last name without byte 10, though an earlier one is empty; `A`, then a name with a space
-pub worked : answered run 51 ∷ answered run 50 ∷ answered (10 ∷ 65 ∷ []) 0 ∷ answered (65 ∷ 10 ∷ 32 ∷ 10 ∷ []) 0 ∷ []
-    ≡ Written 4 51 ∷ Refused (Plain 9) ∷ Refused (Plain 12) ∷ Refused (At 8 1) ∷ []
-unfolding pick part written isDigit every isAllowed valueOf valueFrom fourBytes spanOf runClass runEnd runLimit runAt cutAt textPiece numberPiece pieceAt same riseOf leanString leanChar byRise leanDigits byRise0 leanDigits0 lean choiceAt choicesFrom choicesOf anew referenceOf leansOn share contentOf joined startIn totalOf namesAfter namesOf ended goodName judgedFrom numbersOf typeNumber pieceType choiceType piecePuts valuePuts choicePuts tokenPuts headPuts referencePuts namePuts putsFrom putsOf countable laidOf judgedOf writeOf
+-- C-14: `A_B`
+abbrev sign : List ℕ
+sign = 65 ∷ 95 ∷ 66 ∷ 10 ∷ []
+
+-- four names of 51 bytes, with room and without; a last name without byte 10, though an earlier one is empty; `A`, then a name with a space; `A_B` with room and without
+pub worked : answered run 51 ∷ answered run 50 ∷ answered (10 ∷ 65 ∷ []) 0 ∷ answered (65 ∷ 10 ∷ 32 ∷ 10 ∷ []) 0 ∷ answered sign 12 ∷ answered sign 11 ∷ []
+    ≡ Written 4 51 ∷ Refused (Plain 9) ∷ Refused (Plain 12) ∷ Refused (At 8 1) ∷ Written 1 12 ∷ Refused (Plain 9) ∷ []
+unfolding pick part written isDigit every isAllowed valueOf valueFrom fourBytes spanOf classOf isLetter runEnd runLimit runAt cutAt textPiece numberPiece pieceAt same riseOf leanString leanChar byRise leanDigits byRise0 leanDigits0 lean choiceAt choicesFrom choicesOf anew referenceOf leansOn share contentOf joined startIn totalOf namesAfter namesOf ended goodName judgedFrom numbersOf typeNumber pieceType choiceType piecePuts valuePuts choicePuts tokenPuts headPuts referencePuts namePuts putsFrom putsOf countable laidOf judgedOf writeOf
 worked = refl
+
+-- `A_B` is CHAR A, CHAR _, CHAR B; what lies behind them stays
+pub punctuation : writeOf (rulesOf draftPlain) sign (replicate 2580 7) (replicate 13 9) .bytes ≡ 6 ∷ 0 ∷ 0 ∷ 0 ∷ 0 ∷ 2 ∷ 65 ∷ 2 ∷ 95 ∷ 2 ∷ 66 ∷ 14 ∷ 9 ∷ []
+unfolding pick part written isDigit every isAllowed valueOf valueFrom fourBytes spanOf classOf isLetter runEnd runLimit runAt cutAt textPiece numberPiece pieceAt same riseOf leanString leanChar byRise leanDigits byRise0 leanDigits0 lean choiceAt choicesFrom choicesOf anew referenceOf leansOn share contentOf joined startIn totalOf bytesOf namesAfter namesOf ended goodName judgedFrom numbersOf typeNumber pieceType choiceType piecePuts valuePuts choicePuts tokenPuts headPuts referencePuts namePuts putsFrom putsOf countable laidOf judgedOf writeOf
+punctuation = refl

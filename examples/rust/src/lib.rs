@@ -52,7 +52,9 @@ impl Block {
         }
     }
 
-    /// The streams of names that are each ended by byte 10.
+    /// The streams of names that are each ended by byte 10. A run of the letters A to Z and a to z is
+    /// one token of a name, as is a run of up to nine digits, and every other byte; what is left
+    /// behind 126 tokens is the last.
     pub fn write(input: &[u8]) -> Result<Block, Refusal> {
         Block::write_within(input, bytes_for(input.len()))
     }

@@ -47,7 +47,7 @@ impl Leaves for SecondLeaves {
     }
 
     fn class(&self, byte: u8) -> u32 {
-        class::of(byte) as u32
+        class::number(byte)
     }
 
     fn byte(&self, bytes: &[u8], at: u32, end: u32) -> u64 {

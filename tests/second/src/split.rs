@@ -1,6 +1,6 @@
 //! The writing rule's split of a name, and each token set against the earlier name.
 
-use crate::class::is_digit;
+use crate::class::{self, Class};
 use crate::token::{Padded, Token};
 
 /// "If bytes remain at position 127, all of them are one CHAR or STRING."
@@ -26,23 +26,26 @@ pub fn split(name: &[u8]) -> Vec<Token<'_>> {
             tokens.push(plain(left));
             break;
         }
-        let digits = is_digit(*first);
-        let (run, rest) = left.split_at(run_length(left, digits));
-        tokens.push(if digits { number(run) } else { plain(run) });
+        let class = class::of(*first);
+        let (run, rest) = left.split_at(run_length(left, class));
+        tokens.push(match class {
+            Class::Digit => number(run),
+            Class::Letter | Class::Other => plain(run),
+        });
         left = rest;
     }
     tokens
 }
 
-/// The longest run of digits, cut after 9, or of other bytes.
-fn run_length(left: &[u8], digits: bool) -> usize {
-    let same = left.iter().take_while(|byte| is_digit(**byte) == digits);
-    let length = same.count();
-    if digits {
-        length.min(MOST_DIGITS)
-    } else {
-        length
-    }
+/// The longest run of digits, cut after 9, or of letters; every other byte stands alone.
+fn run_length(left: &[u8], class: Class) -> usize {
+    let same = left.iter().take_while(|byte| class::of(**byte) == class);
+    let most = match class {
+        Class::Digit => MOST_DIGITS,
+        Class::Letter => left.len(),
+        Class::Other => 1,
+    };
+    same.count().min(most)
 }
 
 fn plain(run: &[u8]) -> Token<'_> {

@@ -5,6 +5,7 @@
 use second::calls::{Calls, Second};
 use second::cases::{edges, large, make, run, FAMILIES};
 use second::claim::KeptText;
+use second::class::{self, Class};
 use second::compare::{compare, Case, Tally};
 use second::directory::{place, Block, Spans, Stream, LAST_POSITION};
 use second::distance::Lead;
@@ -13,7 +14,8 @@ use second::memory::{Call, Memory};
 use second::name::head;
 use second::refusal::{pack, unpack, Reason, DONE};
 use second::round::WAYS;
-use second::token::Type;
+use second::split::{against, split, Item};
+use second::token::{Token, Type};
 use std::collections::{BTreeMap, BTreeSet};
 
 /// Every answer that each call can give; from its own opening a whole read meets no 11 and no 13,
@@ -186,6 +188,154 @@ fn met_by_five(spans: &mut Spans<'_>) -> Option<&'static str> {
         Type::Ddelta0 if has(Stream::Ddelta0) => "5 by DDELTA0 in a fresh name",
         _ => "5 by a delta without its byte in a fresh name",
     })
+}
+
+/// What names with punctuation add to what is written (C-14), in a name that leans on none and in
+/// one that leans; of a name alone also where there is no room for it.
+const PUNCTUATION: &[&str] = &[
+    "a run of letters of both cases",
+    "a letter alone",
+    "two other bytes side by side",
+    "[ alone, next to Z",
+    "` alone, next to a",
+    "{ alone, next to z",
+    "/ alone before a digit",
+    ": alone before a digit",
+    "digits behind letters",
+    "a name of 126 tokens",
+    "another byte alone at position 127",
+    "a digit alone at position 127",
+    "a letter alone at position 127",
+    "bytes of one class at position 127",
+    "bytes of several classes at position 127",
+];
+
+const PUNCTUATION_ANSWERS: [(&str, &[&str]); 4] = [
+    ("0, name 0", PUNCTUATION),
+    ("9, name 0", PUNCTUATION),
+    ("0, name 1", PUNCTUATION),
+    (
+        "0, name 1",
+        &[
+            "DUP",
+            "MATCH of another byte",
+            "MATCH of letters",
+            "MATCH at position 127",
+            "a delta behind another byte",
+        ],
+    ),
+];
+
+#[test]
+fn the_family_of_punctuation_meets_every_answer_of_its_own() {
+    let mut punctuation = FAMILIES
+        .iter()
+        .filter(|family| family.word == "punctuation");
+    let family = punctuation.next().unwrap();
+    let mut tally = BTreeMap::new();
+    for number in 0..family.cases {
+        let Case { mut memory, calls } = make(family, number);
+        let Call::Write { input } = &calls[0] else {
+            panic!("case {number} writes nothing");
+        };
+        let names: Vec<&[u8]> = input.split_inclusive(|byte| *byte == b'\n').collect();
+        let names: Vec<&[u8]> = names.iter().map(|name| &name[..name.len() - 1]).collect();
+        let call = match (memory.ask(&calls[0]).0, names.len()) {
+            (0, _) => ["0, name 0", "0, name 1"],
+            (9, 1) => ["9, name 0", ""],
+            _ => continue,
+        };
+        let mut met = |call, words| *tally.entry((call, words)).or_default() += 1;
+        for (place, name) in names.iter().enumerate() {
+            met_by_split(name, |words| met(call[place], words));
+        }
+        if let [before, name] = names[..] {
+            met_by_leaning(before, name, |words| met(call[1], words));
+        }
+    }
+    assert_all_met(&PUNCTUATION_ANSWERS, &tally);
+}
+
+/// By what a name is split into.
+fn met_by_split(name: &[u8], mut met: impl FnMut(&'static str)) {
+    let tokens = split(name);
+    let is_other = |token: &Token<'_>| {
+        let Token::Char(byte) = token else {
+            return false;
+        };
+        class::of(*byte) == Class::Other
+    };
+    for (place, token) in tokens.iter().enumerate() {
+        let several = |bytes: &[u8]| {
+            bytes
+                .iter()
+                .any(|byte| class::of(*byte) != class::of(bytes[0]))
+        };
+        match *token {
+            Token::String(bytes) if place < 126 => {
+                let upper = bytes.iter().filter(|byte| byte.is_ascii_uppercase());
+                if (1..bytes.len()).contains(&upper.count()) {
+                    met("a run of letters of both cases");
+                }
+            }
+            Token::String(bytes) => met(if several(bytes) {
+                "bytes of several classes at position 127"
+            } else {
+                "bytes of one class at position 127"
+            }),
+            Token::Char(byte) if place == 126 => met(match class::of(byte) {
+                Class::Digit => "a digit alone at position 127",
+                Class::Letter => "a letter alone at position 127",
+                Class::Other => "another byte alone at position 127",
+            }),
+            Token::Char(b'[') => met("[ alone, next to Z"),
+            Token::Char(b'`') => met("` alone, next to a"),
+            Token::Char(b'{') => met("{ alone, next to z"),
+            Token::Char(byte) if class::of(byte) == Class::Letter => met("a letter alone"),
+            _ => {}
+        }
+    }
+    for pair in tokens.windows(2) {
+        match pair {
+            [first, second] if is_other(first) && is_other(second) => {
+                met("two other bytes side by side");
+            }
+            [Token::Char(b'/'), Token::Digits(_) | Token::Digits0(_)] => {
+                met("/ alone before a digit");
+            }
+            [Token::Char(b':'), Token::Digits(_) | Token::Digits0(_)] => {
+                met(": alone before a digit");
+            }
+            [Token::String(_), Token::Digits(_) | Token::Digits0(_)] => {
+                met("digits behind letters");
+            }
+            _ => {}
+        }
+    }
+    if tokens.len() == 126 {
+        met("a name of 126 tokens");
+    }
+}
+
+/// By what a name is written as that follows another.
+fn met_by_leaning(before: &[u8], name: &[u8], mut met: impl FnMut(&'static str)) {
+    if before == name {
+        return met("DUP");
+    }
+    let (rows, tokens) = (split(before), split(name));
+    let mut behind = false;
+    for (place, token) in tokens.iter().enumerate() {
+        let row = rows.get(place).copied();
+        let other = matches!(*token, Token::Char(byte) if class::of(byte) == Class::Other);
+        match against(*token, row) {
+            Item::Match if place == 126 => met("MATCH at position 127"),
+            Item::Match if other => met("MATCH of another byte"),
+            Item::Match if matches!(token, Token::String(_)) => met("MATCH of letters"),
+            Item::Ddelta(_) | Item::Ddelta0(_) if behind => met("a delta behind another byte"),
+            _ => {}
+        }
+        behind = other;
+    }
 }
 
 /// The second program with one slip, chosen by number.

@@ -3,7 +3,7 @@ use native.Mathlib.Omega.{arith}
 use Prim.Native.Nat.{_-_}
 use mathlib.Core.Path.{refl, sym, _∙_}
 use denote.Ref.{now}
-use Rattle.classes.proofs.Laws.{Passed, barred-class, allowed-class, barred-here, allowed-here, allowed-none}
+use Rattle.classes.proofs.Laws.{Passed, barred-tabled, allowed-tabled, barred-here, allowed-here, allowed-none}
 use Rattle.classes.proofs.allowed.Statement.{statement}
 use Rattle.classes.proofs.allowed.Tie as tie
 
@@ -16,17 +16,17 @@ abbrev μ-loop : tie.MeasureT-loop
 loop-holds : tie.Need-loop-holds Inv-loop μ-loop
 loop-holds c = record { within = search needs; rest = refl }
 
-shared-slice-read-class-in : tie.Need-shared-slice-read-class-in Inv-loop μ-loop
-shared-slice-read-class-in c = search needs
+shared-slice-read-tabled-in : tie.Need-shared-slice-read-tabled-in Inv-loop μ-loop
+shared-slice-read-tabled-in c = search needs
 
-class-in-requires : tie.Need-class-in-requires Inv-loop μ-loop
-class-in-requires c κs = c .before .before .before .before .pre .0
+tabled-in-requires : tie.Need-tabled-in-requires Inv-loop μ-loop
+tabled-in-requires c κs = c .before .before .before .before .pre .0
 
 returns : tie.Need-returns Inv-loop μ-loop
 returns c =
     let l = c .before .before .before .before .loop in
     let a = c .before .before .before .before .before .before .args in
-    sym (barred-here (now (a .bytes)) (l .i) (a .to) (omega arith) (omega arith) (barred-class _ (sym (c .before .class-in .ensures) ∙ c .if1 .taken))) ∙ l .inv .rest
+    sym (barred-here (now (a .bytes)) (l .i) (a .to) (omega arith) (omega arith) (barred-tabled _ (sym (c .before .tabled-in .ensures) ∙ c .if1 .taken))) ∙ l .inv .rest
 
 add-i : tie.Need-add-i Inv-loop μ-loop
 add-i c = search needs
@@ -40,7 +40,7 @@ loop-again c =
     let a = c .before .before .before .before .before .before .args in
     record {
       within = search needs;
-      rest = sym (allowed-here (now (a .bytes)) (l .i) (a .to) (omega arith) (omega arith) (allowed-class _ (λ e. c .if1 .left (c .before .class-in .ensures ∙ e)))) ∙ l .inv .rest;
+      rest = sym (allowed-here (now (a .bytes)) (l .i) (a .to) (omega arith) (omega arith) (allowed-tabled _ (λ e. c .if1 .left (c .before .tabled-in .ensures ∙ e)))) ∙ l .inv .rest;
     }
 
 returns-2 : tie.Need-returns-2 Inv-loop μ-loop
@@ -56,8 +56,8 @@ allowed-spec =
     Inv-loop
     μ-loop
     loop-holds
-    shared-slice-read-class-in
-    class-in-requires
+    shared-slice-read-tabled-in
+    tabled-in-requires
     returns
     add-i
     loop-less

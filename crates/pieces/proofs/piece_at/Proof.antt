@@ -25,18 +25,18 @@ returns c =
     let e = cut-end (now (a .name)) (a .p .0) (a .at) (s .pre .1 .1) ∙ cut-last (now (a .name)) (a .at) (s .pre .1 .0) (a .p .0) (omega (arith, c .before .if1 .taken)) in
     took _ _ (eq-eqb _ _ (c .before .if1 .taken)) (c .text-piece .ensures ∙ ap (textPiece (now (a .name)) (a .at)) e)
 
-shared-slice-read-run-class : tie.Need-shared-slice-read-run-class
-shared-slice-read-run-class c = search needs
+shared-slice-read-class-in : tie.Need-shared-slice-read-class-in
+shared-slice-read-class-in c = search needs
 
-run-class-requires : tie.Need-run-class-requires
-run-class-requires c κs = search needs
+class-in-requires : tie.Need-class-in-requires
+class-in-requires c κs = search needs
 
 number-piece-requires : tie.Need-number-piece-requires
 number-piece-requires c κs =
     let at-else1 : tie.Else1 = search in
     let s : tie.Start = search in
     let a = s .args in
-    let k = sym (c .before .run-class .ensures) ∙ c .if2 .taken in
+    let k = sym (c .before .class-in .ensures) ∙ c .if2 .taken in
     let r = cut-range (now (a .name)) (a .at) (s .pre .1 .0) (a .p .0) in
     let e = cut-end (now (a .name)) (a .p .0) (a .at) (s .pre .1 .1) in
     let u = cut-run (now (a .name)) (a .at) (s .pre .1 .0) (a .p .0) (at-else1 .if1 .left) in
@@ -52,7 +52,7 @@ returns-2 c =
     let a = s .args in
     let e = cut-end (now (a .name)) (a .p .0) (a .at) (s .pre .1 .1) ∙ cut-run (now (a .name)) (a .at) (s .pre .1 .0) (a .p .0) (at-else1 .if1 .left) in
     left _ _ (ne-eqb _ _ (at-else1 .if1 .left))
-    (took _ _ (eq-eqb _ _ (sym (c .before .before .run-class .ensures) ∙ c .before .if2 .taken))
+    (took _ _ (eq-eqb _ _ (sym (c .before .before .class-in .ensures) ∙ c .before .if2 .taken))
     (c .number-piece .ensures ∙ ap (numberPiece (now (a .name)) (a .at)) e))
 
 text-piece-requires-2 : tie.Need-text-piece-requires-2
@@ -70,7 +70,7 @@ returns-3 c =
     let a = s .args in
     let e = cut-end (now (a .name)) (a .p .0) (a .at) (s .pre .1 .1) ∙ cut-run (now (a .name)) (a .at) (s .pre .1 .0) (a .p .0) (at-else1 .if1 .left) in
     left _ _ (ne-eqb _ _ (at-else1 .if1 .left))
-    (left _ _ (ne-eqb _ _ (λ e. c .before .if2 .left (c .before .before .run-class .ensures ∙ e)))
+    (left _ _ (ne-eqb _ _ (λ e. c .before .if2 .left (c .before .before .class-in .ensures ∙ e)))
     (c .text-piece2 .ensures ∙ ap (textPiece (now (a .name)) (a .at)) e))
 
 pub piece-at-spec : {M : Type 1} → statement M
@@ -79,8 +79,8 @@ piece-at-spec =
     (tie.spec
     text-piece-requires
     returns
-    shared-slice-read-run-class
-    run-class-requires
+    shared-slice-read-class-in
+    class-in-requires
     number-piece-requires
     returns-2
     text-piece-requires-2

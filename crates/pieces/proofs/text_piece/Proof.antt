@@ -1,4 +1,6 @@
+use Prim.Native.Nat.{_+_}
 use mathlib.Core.Path.{refl}
+use native.Mathlib.Omega.{arith}
 use borrow.Author.Tests.{eq-eqb, ne-eqb}
 use borrow.Author.Needs.{needs}
 use Rattle.base.proofs.Choice.{took, left}
@@ -14,11 +16,15 @@ shared-slice-read-t7 c = search needs
 
 returns : tie.Need-returns
 unfolding textPiece
-returns c = took _ _ (eq-eqb _ _ (c .before .if1 .taken)) refl
+returns c =
+    let a = c .before .before .args in
+    took _ _ (eq-eqb (a .end) (a .at + 1) (omega (arith, c .before .if1 .taken))) refl
 
 returns-2 : tie.Need-returns-2
 unfolding textPiece
-returns-2 c = left _ _ (ne-eqb _ _ (c .if1 .left)) refl
+returns-2 c =
+    let a = c .before .args in
+    left _ _ (ne-eqb (a .end) (a .at + 1) (λ e. c .if1 .left (omega arith))) refl
 
 pub text-piece-spec : {M : Type 1} → statement M
 text-piece-spec = tie.close (tie.spec add-if1 shared-slice-read-t7 returns returns-2)

@@ -19,8 +19,8 @@ loop-holds c = said-nothing (now (c .before .args .name)) (c .before .args .at) 
 shared-slice-read-b : tie.Need-shared-slice-read-b Inv-loop μ-loop
 shared-slice-read-b c = search needs
 
-run-class-requires : tie.Need-run-class-requires Inv-loop μ-loop
-run-class-requires c κs =
+class-in-requires : tie.Need-class-in-requires Inv-loop μ-loop
+class-in-requires c κs =
     let at-start : tie.Start Inv-loop μ-loop = search in
     at-start .pre .0
 
@@ -29,7 +29,7 @@ returns c =
     let at-loop : tie.At-loop Inv-loop μ-loop = search in
     let l = at-loop .loop in
     let a = at-loop .before .before .args in
-    said-here (now (a .name)) (a .at) (a .to) (l .n) (l .i) (l .inv) (omega arith) (omega arith) (λ e. c .if1 .taken (c .before .run-class .ensures ∙ e))
+    said-here (now (a .name)) (a .at) (a .to) (l .n) (l .i) (l .inv) (omega arith) (omega arith) (λ e. c .if1 .taken (c .before .class-in .ensures ∙ e))
 
 mul-n : tie.Need-mul-n Inv-loop μ-loop
 mul-n c =
@@ -43,21 +43,21 @@ cast-n c =
     let at-loop : tie.At-loop Inv-loop μ-loop = search in
     let l = at-loop .loop in
     let a = at-loop .before .before .args in
-    omega (arith, said-digit (now (a .name)) (a .at) (a .to) (l .n) (l .i) (l .inv) (omega arith) (omega arith) (sym (c .before .run-class .ensures) ∙ c .if1 .left))
+    omega (arith, said-digit (now (a .name)) (a .at) (a .to) (l .n) (l .i) (l .inv) (omega arith) (omega arith) (sym (c .before .class-in .ensures) ∙ c .if1 .left))
 
 sub-n : tie.Need-sub-n Inv-loop μ-loop
 sub-n c =
     let at-loop : tie.At-loop Inv-loop μ-loop = search in
     let l = at-loop .loop in
     let a = at-loop .before .before .args in
-    said-digit (now (a .name)) (a .at) (a .to) (l .n) (l .i) (l .inv) (omega arith) (omega arith) (sym (c .before .run-class .ensures) ∙ c .if1 .left) .0
+    said-digit (now (a .name)) (a .at) (a .to) (l .n) (l .i) (l .inv) (omega arith) (omega arith) (sym (c .before .class-in .ensures) ∙ c .if1 .left) .0
 
 add-n : tie.Need-add-n Inv-loop μ-loop
 add-n c =
     let at-loop : tie.At-loop Inv-loop μ-loop = search in
     let l = at-loop .loop in
     let a = at-loop .before .before .args in
-    omega (arith, said-digit (now (a .name)) (a .at) (a .to) (l .n) (l .i) (l .inv) (omega arith) (omega arith) (sym (c .before .run-class .ensures) ∙ c .if1 .left), said-small (now (a .name)) (a .at) (a .to) (l .n) (l .i) (l .inv) (omega arith) (omega arith) (omega arith))
+    omega (arith, said-digit (now (a .name)) (a .at) (a .to) (l .n) (l .i) (l .inv) (omega arith) (omega arith) (sym (c .before .class-in .ensures) ∙ c .if1 .left), said-small (now (a .name)) (a .at) (a .to) (l .n) (l .i) (l .inv) (omega arith) (omega arith) (omega arith))
 
 add-i : tie.Need-add-i Inv-loop μ-loop
 add-i c = search needs
@@ -70,7 +70,7 @@ loop-again c =
     let at-loop : tie.At-loop Inv-loop μ-loop = search in
     let l = at-loop .loop in
     let a = at-loop .before .before .args in
-    said-more (now (a .name)) (a .at) (a .to) (l .n) (l .i) (l .inv) (omega arith) (omega arith) (sym (c .before .run-class .ensures) ∙ c .if1 .left)
+    said-more (now (a .name)) (a .at) (a .to) (l .n) (l .i) (l .inv) (omega arith) (omega arith) (sym (c .before .class-in .ensures) ∙ c .if1 .left)
 
 returns-2 : tie.Need-returns-2 Inv-loop μ-loop
 returns-2 c =
@@ -87,7 +87,7 @@ number-run-spec =
     μ-loop
     loop-holds
     shared-slice-read-b
-    run-class-requires
+    class-in-requires
     returns
     mul-n
     cast-n

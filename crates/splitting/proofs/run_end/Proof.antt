@@ -10,19 +10,19 @@ use Rattle.splitting.proofs.run_end.Statement.{statement}
 use Rattle.splitting.proofs.run_end.Tie as tie
 
 abbrev Inv-loop : tie.InvT-loop
-Inv-loop table name at i₀ i = (at ≤ i) × ((i ≤ length name) × (runEnd name 0 i (length name - i) ≡ runEnd name 0 at (length name - at)))
+Inv-loop table name class at i₀ i = (at ≤ i) × ((i ≤ length name) × (runEnd name class i (length name - i) ≡ runEnd name class at (length name - at)))
 
 abbrev μ-loop : tie.MeasureT-loop
-μ-loop table name at i₀ i = length name - i
+μ-loop table name class at i₀ i = length name - i
 
 loop-holds : tie.Need-loop-holds Inv-loop μ-loop
 loop-holds c = (search needs, (search needs, refl))
 
-shared-slice-read-run-class : tie.Need-shared-slice-read-run-class Inv-loop μ-loop
-shared-slice-read-run-class c = search needs
+shared-slice-read-class-in : tie.Need-shared-slice-read-class-in Inv-loop μ-loop
+shared-slice-read-class-in c = search needs
 
-run-class-requires : tie.Need-run-class-requires Inv-loop μ-loop
-run-class-requires c κs =
+class-in-requires : tie.Need-class-in-requires Inv-loop μ-loop
+class-in-requires c κs =
     let at-start : tie.Start Inv-loop μ-loop = search in
     at-start .pre .0
 
@@ -31,7 +31,7 @@ returns c =
     let at-loop : tie.At-loop Inv-loop μ-loop = search in
     let l = at-loop .loop in
     let a = at-loop .before .before .args in
-    sym (run-here (now (a .name)) 0 (l .i) (length (now (a .name))) (omega arith) (λ e. c .if1 .taken (c .before .run-class .ensures ∙ e))) ∙ l .inv .1 .1
+    sym (run-here (now (a .name)) (a .class) (l .i) (length (now (a .name))) (omega arith) (λ e. c .if1 .taken (c .before .class-in .ensures ∙ e))) ∙ l .inv .1 .1
 
 add-i : tie.Need-add-i Inv-loop μ-loop
 add-i c = search needs
@@ -44,14 +44,14 @@ loop-again c =
     let at-loop : tie.At-loop Inv-loop μ-loop = search in
     let l = at-loop .loop in
     let a = at-loop .before .before .args in
-    (search needs, (search needs, run-next (now (a .name)) 0 (l .i) (length (now (a .name))) (omega arith) (sym (c .before .run-class .ensures) ∙ c .if1 .left) ∙ l .inv .1 .1))
+    (search needs, (search needs, run-next (now (a .name)) (a .class) (l .i) (length (now (a .name))) (omega arith) (sym (c .before .class-in .ensures) ∙ c .if1 .left) ∙ l .inv .1 .1))
 
 returns-2 : tie.Need-returns-2 Inv-loop μ-loop
 returns-2 c =
     let at-start : tie.Start Inv-loop μ-loop = search in
     let l = c .before .loop in
     let a = at-start .args in
-    sym (run-out (now (a .name)) 0 (l .i) (length (now (a .name))) (omega arith)) ∙ l .inv .1 .1
+    sym (run-out (now (a .name)) (a .class) (l .i) (length (now (a .name))) (omega arith)) ∙ l .inv .1 .1
 
 pub run-end-spec : {M : Type 1} → statement M
 run-end-spec =
@@ -60,8 +60,8 @@ run-end-spec =
     Inv-loop
     μ-loop
     loop-holds
-    shared-slice-read-run-class
-    run-class-requires
+    shared-slice-read-class-in
+    class-in-requires
     returns
     add-i
     loop-less

@@ -215,7 +215,17 @@ pub fn fresh_starts(random: &mut Random) -> Case {
 /// Names written with room around their total, and read back.
 pub fn written(random: &mut Random) -> Case {
     let names = names::good(random, 12);
-    let input = names::ended(&names);
+    written_and_read(random, &names)
+}
+
+/// The same of names in which punctuation, letters and digits meet (C-14).
+pub fn punctuation(random: &mut Random) -> Case {
+    let names = names::with_punctuation(random);
+    written_and_read(random, &names)
+}
+
+fn written_and_read(random: &mut Random, names: &[Vec<u8>]) -> Case {
+    let input = names::ended(names);
     let mut trial = Memory::to_write(8 * input.len() + 64, 0);
     trial.run(
         &Second,
@@ -236,7 +246,7 @@ pub fn written(random: &mut Random) -> Case {
     }
     let count = names.len() as u32;
     let mut calls = vec![Call::Write { input }, Call::ReadBlock { count }];
-    calls.extend(claims(random, &names, 3));
+    calls.extend(claims(random, names, 3));
     Case { memory, calls }
 }
 

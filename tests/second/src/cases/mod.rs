@@ -31,7 +31,7 @@ const fn family(word: &'static str, cases: u64, make: fn(&mut Random) -> Case) -
     Family { word, cases, make }
 }
 
-pub const FAMILIES: [Family; 12] = [
+pub const FAMILIES: [Family; 13] = [
     family("whole", 3_000, families::whole),
     family("steps", 3_000, families::steps),
     family("any", 3_000, families::any_calls),
@@ -43,6 +43,7 @@ pub const FAMILIES: [Family; 12] = [
     family("forged", 10_000, families::forged_tables),
     family("fresh", 8_000, families::fresh_starts),
     family("written", 4_000, families::written),
+    family("punctuation", 4_000, families::punctuation),
     family("spoilt", 3_000, families::spoilt),
 ];
 

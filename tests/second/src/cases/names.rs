@@ -5,7 +5,7 @@ use super::random::Random;
 /// A maker of one name, handed the name before.
 type Maker = fn(&mut Random, &[u8]) -> Vec<u8>;
 
-const MAKERS: [Maker; 9] = [
+const MAKERS: [Maker; 10] = [
     illumina,
     pacbio,
     nanopore,
@@ -15,6 +15,7 @@ const MAKERS: [Maker; 9] = [
     stepped,
     longest,
     repeated,
+    punctuated,
 ];
 
 /// Good names only.
@@ -30,6 +31,16 @@ pub fn good(random: &mut Random, most: usize) -> Vec<Vec<u8>> {
         };
         let name = maker(random, &before);
         names.push(name);
+    }
+    names
+}
+
+/// One or two names of punctuation, letters and digits.
+pub fn with_punctuation(random: &mut Random) -> Vec<Vec<u8>> {
+    let first = punctuated(random, b"");
+    let mut names = vec![first];
+    if random.percent(70) {
+        names.push(touched(random, &names[0]));
     }
     names
 }
@@ -104,7 +115,7 @@ fn digit_heavy(random: &mut Random, _: &[u8]) -> Vec<u8> {
     (0..length).map(byte).collect()
 }
 
-/// Around 127 tokens: runs of one or two bytes, digits and others by turns.
+/// Around 127 tokens: runs of one or two bytes, digits and letters by turns.
 fn many_runs(random: &mut Random, _: &[u8]) -> Vec<u8> {
     let runs = random.between(120, 132);
     let mut name = Vec::new();
@@ -121,6 +132,75 @@ fn many_runs(random: &mut Random, _: &[u8]) -> Vec<u8> {
     }
     name.extend((0..random.below(30)).map(|_| random.digit()));
     name.truncate(254);
+    name
+}
+
+/// Punctuation, the bytes next to the digits and letters among it, letters of both cases with
+/// the first and last of each, and digits; one token or many, often around 127 of them.
+fn punctuated(random: &mut Random, before: &[u8]) -> Vec<u8> {
+    if !before.is_empty() && random.percent(40) {
+        return touched(random, before);
+    }
+    if random.percent(15) {
+        return with_a_rest(random);
+    }
+    let mut name = Vec::new();
+    let tokens = match random.below(4) {
+        0 => random.between(124, 130),
+        1 => random.between(1, 3),
+        _ => random.between(1, 30),
+    };
+    let alone = random.pick(&[50, 90, 98, 100]);
+    for _ in 0..tokens {
+        if random.percent(alone) {
+            name.push(random.pick(b"_:/[`{!~?"));
+            continue;
+        }
+        let run = if random.percent(50) {
+            b"AZazMm"
+        } else {
+            b"019019"
+        };
+        let length = random.pick(&[1, 1, 2, 3, 10]);
+        name.extend((0..length).map(|_| random.pick(run)));
+    }
+    if random.percent(10) {
+        name.resize(random.between(252, 254), b'_');
+    }
+    name.truncate(254);
+    name
+}
+
+/// 126 tokens of one byte, or one less or more, and what is left for position 127.
+fn with_a_rest(random: &mut Random) -> Vec<u8> {
+    let alone = random.pick(&[125, 126, 126, 126, 127]);
+    let rests = [
+        &b""[..],
+        b"_",
+        b"7",
+        b"z",
+        b"__",
+        b"a_1",
+        b"12",
+        b"Zz",
+        b"0_",
+    ];
+    let mut name: Vec<u8> = (0..alone).map(|_| random.pick(b"_:[`{")).collect();
+    name.extend(random.pick(&rests));
+    name
+}
+
+/// The name before with one byte another, a byte more or a byte less.
+fn touched(random: &mut Random, before: &[u8]) -> Vec<u8> {
+    let mut name = before.to_vec();
+    let place = random.below(name.len());
+    let byte = random.pick(b"_:[`{aZz019");
+    match random.below(4) {
+        0 if name.len() > 1 => drop(name.remove(place)),
+        1 if name.len() < 254 => name.insert(place, byte),
+        2 if name[place].is_ascii_digit() => name[place] = (name[place] + 1).min(b'9'),
+        _ => name[place] = byte,
+    }
     name
 }
 
