@@ -15,9 +15,7 @@ use Rattle.spans.specs.declared.Cursor.{Cursor}
 use Rattle.spans.specs.declared.NextByte.the-variants as byte
 use Rattle.block.specs.Streams.{typeStream, diffStream}
 use Rattle.tables.specs.Tables.{Kept, entryAt, Table}
-use Rattle.tokens.specs.declared.Token.{Token}
 use Rattle.types.specs.declared.TokenType.{TokenType}
-use Rattle.types.specs.declared.TokenType.the-variants as type
 use Rattle.types.specs.Types.{typeOf}
 use Rattle.tokens.specs.Tokens.{bytesOf}
 use Rattle.sources.specs.Source.{Source, earlier, byteIn}
@@ -27,9 +25,8 @@ use Rattle.repeats.specs.Repeats.{hasRow, hasKind, deltaAt, delta0At, matchAt}
 use Rattle.repeats.proofs.Laws.{rows-none}
 use Rattle.bars.specs.Bars.{barred}
 use Rattle.steps.specs.Steps.{valueStep, typedStep, stepAt}
-use Rattle.steps.proofs.Frame.{step-earlier}
 use Rattle.names.specs.Names.{Draft, Named, named, grown, ended, printable, onward, nameFrom, nameOf}
-use Rattle.names.proofs.Growing.{never-named, grows, name-same}
+use Rattle.names.proofs.Growing.{never-named, grows}
 use Rattle.entries.specs.declared.Answer.the-variants as answer
 use Rattle.outcomes.specs.Outcomes.{Outcome}
 use Rattle.outcomes.specs.Keeping.{kept}
@@ -37,10 +34,8 @@ use Rattle.earlier.specs.Back.{none}
 use Rattle.reads.specs.Reads.{readOf}
 use Rattle.references.specs.References.{anew, referenceOf}
 use Rattle.demands.specs.Refusals.{IsHead, is-dup, is-diff, Heads, diff-none, HeadStop, no-type, no-head, no-distance, off-rule, on-none, on-earlier, Origin, copied, walked, Reason, by-head, by-memory, by-token, by-room, ReadCase, refuses, ends, keeps, dupIn, diffIn}
-use Rattle.demands.specs.Stops.{Typed}
 use Rattle.demands.specs.Afresh.{OnlyAfresh, NeverWritten, Leaning, match, delta, delta0, StartsAfresh}
-use Rattle.demands.proofs.Lemmas.Traces as traces
-use Rattle.demands.proofs.Lemmas.Traces.{Value, StepWay, halts, closes, gives, step-way}
+use Rattle.demands.proofs.Lemmas.Frames.{name-alike}
 use Rattle.demands.proofs.Lemmas.Stops.{stop-number}
 use Rattle.demands.proofs.Lemmas.Ways.{read-case}
 use Rattle.demands.proofs.Lemmas.Adding.{entry-kept}
@@ -91,46 +86,9 @@ module _ (s : Source) (text : List ℕ) (rows : Table) (p : ℕ) (low : 1 ≤ p)
       ∙ pick-false _ _ (both-left _ (ne-eqb p 128 (λ z. omega arith)))
       ∙ value-five c (typeOf (s .rules .numbers) b) l
 
-  -- so what a step gives has its bytes in the block
-  module _ (other : List ℕ) (high : p ≤ 128) where
-    no-match : Typed s p type.Match → p < 128 → (t : Token) (c : Cursor) → stepAt s (earlier text rows 0 0) p ≡ step.Got t c → ⊥
-    no-match y l t c q =
-        let f = step-five l (y .number) (y .past) (y .there) (subst Leaning (sym (y .is)) match) in
-        let z : _≡_ {A = ℕ} 0 1 = cc in
-        omega arith
-
-    value-bytes : (y : TokenType) (t : Token) (c : Cursor) → Typed s p y → p < 128 → Value s p y t c
-        → stepAt s (earlier text rows 0 0) p ≡ step.Got t c → bytesOf (s .bytes) other t ≡ bytesOf (s .bytes) text t
-    unfolding bytesOf pick
-    value-bytes y t c k n (traces.string l) q = refl
-    value-bytes y t c k n (traces.char b) q = refl
-    value-bytes y t c k n (traces.digits b) q = refl
-    value-bytes y t c k n (traces.digits0 b) q = refl
-    value-bytes y t c k n (traces.delta b) q = refl
-    value-bytes y t c k n (traces.delta0 b) q = refl
-    value-bytes y t c k n (traces.match a b) q = absurd (no-match k n t c q)
-
-    way-bytes : (st : Step) → StepWay s (earlier text rows 0 0) p st → stepAt s (earlier text rows 0 0) p ≡ st → (t : Token) (c : Cursor) → st ≡ step.Got t c
-        → bytesOf (s .bytes) other t ≡ bytesOf (s .bytes) text t
-    way-bytes st (halts r b) e t c q = let z : _≡_ {A = ℕ} 0 1 = cc in absurd (omega arith)
-    way-bytes st (closes y) e t c q = let z : _≡_ {A = ℕ} 0 1 = cc in absurd (omega arith)
-    way-bytes st (gives y u d k n v) e t c q =
-        let z : u ≡ t = cc in
-        subst (λ (x : Token). bytesOf (s .bytes) other x ≡ bytesOf (s .bytes) text x) z (value-bytes y u d k n v e)
-
-    own-bytes : (t : Token) (c : Cursor) → stepAt s (earlier text rows 0 0) p ≡ step.Got t c → bytesOf (s .bytes) other t ≡ bytesOf (s .bytes) text t
-    own-bytes t c q = way-bytes _ (step-way s (earlier text rows 0 0) p high) refl t c q
-
 -- and a name is the same whatever is kept
-name-alike : (s : Source) (text : List ℕ) (rows : Table) (other : List ℕ) (table : Table) (used : ℕ) (c : List ℕ) → nameOf s (earlier other table 0 0) used c ≡ nameOf s (earlier text rows 0 0) used c
-unfolding nameOf
-name-alike s text rows other table used c =
-    name-same s s (earlier text rows 0 0) (earlier other table 0 0) used 128 1 _ (omega arith)
-    (record {
-      steps = λ q i j. step-earlier other text table rows 0 0 0 q (rows-none 0 other table (omega arith)) i refl (λ k h. absurd (omega arith)) s;
-      types = λ q i j. refl;
-      bytes = λ q i j t c e. own-bytes s text rows q i other j t c e;
-    })
+kept-or-not : (s : Source) (text other : List ℕ) (rows table : Table) (used : ℕ) (c : List ℕ) → nameOf s (earlier other table 0 0) used c ≡ nameOf s (earlier text rows 0 0) used c
+kept-or-not s text other rows table = name-alike s text other rows table 0 0 0 (rows-none 0 text rows (omega arith)) refl (λ k h. absurd (omega arith))
 
 -- and none of the positions of a name that is read leans
 module _ (s : Source) (text : List ℕ) (rows : Table) (used : ℕ) where
@@ -214,7 +172,7 @@ pub starts-afresh : StartsAfresh
 unfolding none
 starts-afresh s m ready more g = record {
   reads = leans-read s m ready more 0 (none m) (on-none g);
-  alike = λ text rows. name-alike s text rows (m .text) (m .rows) (m .state .text) _;
+  alike = λ text rows. kept-or-not s text (m .text) rows (m .rows) (m .state .text) _;
   fives = λ p b c low h e l. step-five s (m .text) (m .rows) p low h b c e l;
   never-4 = λ e. reason-afresh s m g 4 (read-named s m 4 _ e .1) .0 refl;
   never-13 = λ e. reason-afresh s m g 13 (read-named s m 13 _ e .1) .1 refl;

@@ -1,5 +1,5 @@
 -- The bench cases marked P, as one list under one statement; and outside it, each with a statement of its own, the slip that a case shows and blocks in which later names start afresh (C-11).
-use Prim.Native.Nat.{ℕ, _<_}
+use Prim.Native.Nat.{ℕ, _+_, _<_}
 use mathlib.Core.Path.{_≡_, refl, _∙_}
 use mathlib.Core.Bool.{true}
 use mathlib.Core.List.{List, [], _∷_, _++_}
@@ -51,17 +51,17 @@ use Rattle.demands.specs.Cases.{Case, Hold, Stream, typeBytes, bytesIn, 
 use Rattle.demands.proofs.Lemmas.Blocks.{curFrom, nexts, quick, over}
 
 -- a read over a small block, by what it computes to
-block : (room : Buffers) (n : ℕ) (xs : List Stream) (said : Told) → n < 65536 → inDirectory xs ≡ true → quick room n xs ≡ said → readIn room n xs ≡ said
+block : (room : Buffers) (n : ℕ) (xs : List Stream) (said : Told) → n < 65536 → inDirectory xs ≡ true → quick room (n + 1) n xs ≡ said → readIn room n xs ≡ said
 block room n xs said h ok e = over room n xs h ok ∙ e
 
 -- the first read, the second and the fourth
-first : (xs : List Stream) (said : Told) → inDirectory xs ≡ true → quick small 0 xs ≡ said → readOver 0 xs ≡ said
+first : (xs : List Stream) (said : Told) → inDirectory xs ≡ true → quick small 1 0 xs ≡ said → readOver 0 xs ≡ said
 first xs said ok e = block small 0 xs said (omega arith) ok e
 
-second : (xs : List Stream) (said : Told) → inDirectory xs ≡ true → quick small 1 xs ≡ said → readOver 1 xs ≡ said
+second : (xs : List Stream) (said : Told) → inDirectory xs ≡ true → quick small 2 1 xs ≡ said → readOver 1 xs ≡ said
 second xs said ok e = block small 1 xs said (omega arith) ok e
 
-fourth : (xs : List Stream) (said : Told) → inDirectory xs ≡ true → quick small 3 xs ≡ said → readOver 3 xs ≡ said
+fourth : (xs : List Stream) (said : Told) → inDirectory xs ≡ true → quick small 4 3 xs ≡ said → readOver 3 xs ≡ said
 fourth xs said ok e = block small 3 xs said (omega arith) ok e
 
 -- several equations of one case

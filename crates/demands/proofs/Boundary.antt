@@ -48,7 +48,7 @@ use Rattle.readcalls.specs.Calls.{Reads, reads, readsOf, readCall, blockCall}
 use Rattle.claimcalls.specs.Calls.{claimCall}
 use Rattle.writecalls.specs.Calls.{Writes, writes, writtenTotals, writesOf, writeCall}
 use Rattle.demands.specs.Runs as runs
-use Rattle.demands.specs.Runs.{Lent, lent, read, left, Keeps, Call, reading, claiming, after, run, claimed, nameAt}
+use Rattle.demands.specs.Runs.{Lent, lent, read, left, Fresh, Keeps, Call, reading, claiming, after, run, claimed, nameAt}
 use Rattle.demands.specs.Refusals as cases
 use Rattle.demands.specs.Refusals.{OpenCase, WriteCase, Ready, Heads, Why, ReadCase, refuses, ends, keeps}
 use Rattle.demands.specs.Right.{Judged, Sane, left-over, by-rules, Demand3}
@@ -313,7 +313,7 @@ block-call-stopped rules bytes dir count cur text names rows st l h =
 
 -- calls at the boundary are the calls inside
 module _ (rules : Rules) (bytes dir : List ℕ) where
-  call-after : (r : Reads) (c : Call) → lentFrom (callOn rules bytes dir r c) ≡ after rules bytes dir (lentFrom r) c
+  pub call-after : (r : Reads) (c : Call) → lentFrom (callOn rules bytes dir r c) ≡ after rules bytes dir (lentFrom r) c
   unfolding lentFrom callOn after readCall readsOf read left stateIn stateOut
   call-after r reading = refl
   call-after r (claiming number claim) = refl
@@ -433,13 +433,17 @@ module _ (rules : Rules) (bytes dir : List ℕ) (count : ℕ) (cur text names : 
   abbrev first : Lent
   first = lent (starts dir) (keeping (state count 0 0 0) text names rows)
 
-  accepts : openOf (length bytes) dir count cur ≡ opening (opened.Fresh (state count 0 0 0)) (starts dir)
+  pub accepts : openOf (length bytes) dir count cur ≡ opening (opened.Fresh (state count 0 0 0)) (starts dir)
   unfolding openCall
   accepts = opens-fresh (length bytes) dir count cur st _ (open-case (length bytes) dir count cur) v fresh
 
   lends : lentFrom start ≡ first
   unfolding openCall opensOf openedState lentFrom stateIn stateOut
   lends = ap (λ (o : Opening). lentFrom (begun (opensOf st o) text names rows)) accepts
+
+  -- so what it leaves is a fresh start
+  pub fresh-start : Fresh bytes dir count (lentFrom (begun (openCall bytes dir count cur st) text names rows))
+  fresh-start = record { old = cur; state = state count 0 0 0; opens = rw lends accepts; begins = ap (λ (l : Lent). l .kept .state) lends }
 
   four : length (start .state) ≡ 4
   unfolding openCall opensOf openedState stateOut
@@ -476,8 +480,7 @@ module _ (rules : Rules) (bytes dir : List ℕ) (count : ℕ) (cur text names : 
       → Demand3Call rules bytes dir (lentFrom (begun (openCall bytes dir count cur st) text names rows)) (callsOn rules bytes dir (begun (openCall bytes dir count cur st) text names rows) calls)
   calls-demand-3 calls =
       demand-3-call rules bytes dir (lentFrom start) _ _ (calls-run rules bytes dir calls start)
-      (demand-3 rules bytes dir count (lentFrom start)
-      (record { old = cur; state = state count 0 0 0; opens = rw lends accepts; begins = ap (λ (l : Lent). l .kept .state) lends }) calls)
+      (demand-3 rules bytes dir count (lentFrom start) fresh-start calls)
 
   -- and from a whole-block read on
   pub block-calls-demand-3 : (calls : List Call)

@@ -115,11 +115,11 @@ plain-reads rules bytes dir n l z (none x) = refl
 plain-reads rules bytes dir n l z (next k i x y e h) = plain-reads rules bytes dir k _ z h
 
 module _ (rules : Rules) (bytes dir : List ℕ) where
-  one-later : (l : Lent) (i : ℕ) → read rules bytes dir l .answer ≡ answer.Kept i → Later (l .kept) (left (read rules bytes dir l) .kept)
+  pub one-later : (l : Lent) (i : ℕ) → read rules bytes dir l .answer ≡ answer.Kept i → Later (l .kept) (left (read rules bytes dir l) .kept)
   unfolding read left
   one-later l i e = later-adds (source rules bytes dir (l .cur)) (l .kept) i _ (read-adds (source rules bytes dir (l .cur)) (l .kept) i e)
 
-  one-name : (l : Lent) (i : ℕ) → read rules bytes dir l .answer ≡ answer.Kept i → left (read rules bytes dir l) .kept .state .names ≡ l .kept .state .names + 1
+  pub one-name : (l : Lent) (i : ℕ) → read rules bytes dir l .answer ≡ answer.Kept i → left (read rules bytes dir l) .kept .state .names ≡ l .kept .state .names + 1
   unfolding read left
   one-name l i e = ap (λ (x : State). x .names) (read-adds (source rules bytes dir (l .cur)) (l .kept) i e .counts)
 

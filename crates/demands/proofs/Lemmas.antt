@@ -1,6 +1,7 @@
 -- Laws of the model's parts that the theorems stand on.
 pub mod Streams
 pub mod Traces
+pub mod Frames
 pub mod Stops
 pub mod Ways
 pub mod Moves

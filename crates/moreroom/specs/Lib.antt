@@ -1,0 +1,4 @@
+pub mod Runs
+pub mod Fates
+pub mod Calls
+pub mod Cases
