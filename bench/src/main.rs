@@ -4,7 +4,8 @@
 //! Illumina-like names so many times, prints how many names those are and nothing else, for a
 //! counter of instructions; the difference between two such runs leaves the setting up out. With
 //! a number behind it every so many-th of the names that are read starts afresh. `bench written`
-//! prints what writing makes of names. With a file all three are of its names, a name a line.
+//! prints what writing makes of names. With a file all three are of its names, a name a line; with
+//! a family's word, of 1,000 of its names.
 //! `bench lent` says what is lent in the first two.
 
 #![deny(unsafe_code)]
@@ -19,16 +20,17 @@ mod work;
 mod written;
 
 use clock::Rounds;
-use names::{Names, ILLUMINA};
+use names::{Names, COUNTED, ILLUMINA};
 use std::num::NonZeroUsize;
 use std::process::ExitCode;
 use std::str::FromStr;
 use work::{by_word, each_block, CALLS, HOLDERS};
 
 const USAGE: &str = "bench lent
-bench [--names FILE] written
-bench [--names FILE] [ROUNDS]
-bench [--names FILE] one library|second|plain|tok3 CALL TIMES [AFRESH]
+bench [--names FILE|FAMILY] written
+bench [--names FILE|FAMILY] [ROUNDS]
+bench [--names FILE|FAMILY] one library|second|plain|tok3 CALL TIMES [AFRESH]
+FAMILY: Illumina-like, PacBio-like, Nanopore-like or random
 CALL: 'whole block', 'single reads', claims, 'writing, exact' or 'writing, ample'
 AFRESH: every so many-th name that is read starts afresh";
 
@@ -46,12 +48,12 @@ fn main() -> ExitCode {
 
 fn run(words: &[&str]) -> Result<(), String> {
     let (names, words) = match words {
-        ["--names", file, rest @ ..] => (Some(Names::of_file(file)?), rest),
+        ["--names", word, rest @ ..] => (Some(Names::of(word)?), rest),
         _ => (None, words),
     };
     match words {
         ["one", holder, call, times, afresh @ ..] => {
-            let names = names.unwrap_or_else(|| ILLUMINA.names(1_000));
+            let names = names.unwrap_or_else(|| ILLUMINA.names(COUNTED));
             let names = match afresh {
                 [] => names,
                 [every] => names.afresh(number::<NonZeroUsize>(every)?.get()),

@@ -30,8 +30,16 @@ impl Names {
         }
     }
 
+    /// Those of a family, or of a file.
+    pub fn of(word: &str) -> Result<Names, String> {
+        match FAMILIES.iter().find(|family| family.word == word) {
+            Some(family) => Ok(family.names(COUNTED)),
+            None => Names::of_file(word),
+        }
+    }
+
     /// A name a line, be the last one ended or not; a block is full before the next begins.
-    pub fn of_file(path: &str) -> Result<Names, String> {
+    fn of_file(path: &str) -> Result<Names, String> {
         let mut input = std::fs::read(path).map_err(|error| format!("{path}: {error}"))?;
         if input.is_empty() {
             return Err(format!("{path} has no names"));
@@ -81,6 +89,9 @@ pub const FAMILIES: [Family; 4] = [
 ];
 
 pub const ILLUMINA: &Family = &FAMILIES[0];
+
+/// How many of a family's names are measured, unless another number is said.
+pub const COUNTED: u32 = 1_000;
 
 impl Family {
     /// So many names, in one block.

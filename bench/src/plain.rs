@@ -1,5 +1,5 @@
 //! The judgement that a read begins with, `block::judge`, as a plain loop over the same tables: of
-//! each of the 1,290 spans and cursors the four comparisons that the library makes, of 32 bits each.
+//! each of the 1,290 spans and cursors the three comparisons that the library makes, of 32 bits each.
 
 use second::directory::{DIRECTORY, SPANS};
 
@@ -11,26 +11,28 @@ pub enum Verdict {
     Inside,
 }
 
-/// As the library does it: every span is looked at, whatever the ones before it were.
+/// As the library does it: every span is looked at, whatever the ones before it were, and only where
+/// one fails is it asked which of the two it is.
 pub fn without_way_out(bytes: usize, directory: &[u32], cursors: &[u32]) -> Verdict {
     if directory.len() != DIRECTORY || cursors.len() != SPANS {
         return Verdict::Unsound;
     }
     let reach = reach(bytes);
-    let (mut sound, mut inside) = (true, true);
+    let mut fine = true;
     for (span, cursor) in directory.chunks_exact(2).zip(cursors) {
-        sound &= is_sound(span, reach);
-        inside &= is_inside(span, *cursor);
+        fine &= is_fine(span, *cursor, reach);
     }
-    match (sound, inside) {
-        (false, _) => Verdict::Unsound,
-        (true, false) => Verdict::Outside,
-        (true, true) => Verdict::Inside,
+    if fine {
+        Verdict::Inside
+    } else if are_sound(directory, reach) {
+        Verdict::Outside
+    } else {
+        Verdict::Unsound
     }
 }
 
 /// The first unsound span ends it. A cursor outside doesn't: a span behind it may be unsound, which
-/// is said first.
+/// is said first. Only of a span that fails is it asked which of the two it is.
 pub fn with_way_out(bytes: usize, directory: &[u32], cursors: &[u32]) -> Verdict {
     if directory.len() != DIRECTORY || cursors.len() != SPANS {
         return Verdict::Unsound;
@@ -38,10 +40,10 @@ pub fn with_way_out(bytes: usize, directory: &[u32], cursors: &[u32]) -> Verdict
     let reach = reach(bytes);
     let mut verdict = Verdict::Inside;
     for (span, cursor) in directory.chunks_exact(2).zip(cursors) {
-        if !is_sound(span, reach) {
-            return Verdict::Unsound;
-        }
-        if !is_inside(span, *cursor) {
+        if !is_fine(span, *cursor, reach) {
+            if !is_sound(span, reach) {
+                return Verdict::Unsound;
+            }
             verdict = Verdict::Outside;
         }
     }
@@ -57,6 +59,12 @@ fn is_sound(span: &[u32], reach: u32) -> bool {
     (span[0] <= span[1]) & (span[1] <= reach)
 }
 
-fn is_inside(span: &[u32], cursor: u32) -> bool {
-    (span[0] <= cursor) & (cursor <= span[1])
+/// Sound, and its cursor inside, which tells too that the start isn't above the end.
+fn is_fine(span: &[u32], cursor: u32, reach: u32) -> bool {
+    (span[0] <= cursor) & (cursor <= span[1]) & (span[1] <= reach)
+}
+
+fn are_sound(directory: &[u32], reach: u32) -> bool {
+    let spans = directory.chunks_exact(2);
+    spans.fold(true, |sound, span| sound & is_sound(span, reach))
 }

@@ -1,6 +1,6 @@
 // The C boundary: each call of the library behind a C function that hands on what it is lent.
 ghost use mathlib.Core.Path.{_≡_};
-ghost use Rattle.types.specs.Types.{rulesOf, draftPlain};
+ghost use Rattle.numbering.specs.Types.{rulesOf, draftPlain};
 ghost use Rattle.opencalls.specs.Calls.{opensLeft, openCallLent};
 ghost use Rattle.readcalls.specs.Calls.{readsLeft, readCallLent, blockCallLent};
 ghost use Rattle.claimcalls.specs.Calls.{claimCallLent};

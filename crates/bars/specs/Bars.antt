@@ -3,8 +3,8 @@ use Prim.Native.Nat.{ℕ}
 use mathlib.Core.Bool.{Bool, true, false}
 use lib.Dec.{eqb}
 use Rattle.base.specs.Choice.{both}
-use Rattle.types.specs.declared.TokenType.{TokenType}
-use Rattle.types.specs.declared.TokenType.the-variants as type
+use Rattle.numbering.specs.declared.TokenType.{TokenType}
+use Rattle.numbering.specs.declared.TokenType.the-variants as type
 
 -- a type in the table other than END
 unfoldable pub carries : TokenType → Bool
@@ -18,6 +18,10 @@ carries type.Match = true
 carries type.End = false
 carries type.Other = false
 
--- 7: at position 128, a type in the table other than END
+-- 128 is the last position
+abbrev pub isLast : ℕ → Bool
+isLast p = eqb p 128
+
+-- 7: at the last position, a type in the table other than END
 unfoldable pub barred : ℕ → TokenType → Bool
-barred p t = both (eqb p 128) (carries t)
+barred p t = both (isLast p) (carries t)

@@ -12,6 +12,7 @@ use lib.Dec.{leb, eqb}
 use lib.ListN.{length, drop, getD, set, length-set}
 use lib.Seq.{getD-set-same, getD-set-other, paste, paste-suc, take-all, drop-length}
 use Rattle.base.specs.Choice.{pick, both}
+use Rattle.base.specs.Every.{each}
 use Rattle.base.proofs.Choice.{both-true, both-of, both-left, both-right, took, left, pick-true, by-test}
 use Rattle.base.proofs.Numbers.{lt-or-ge}
 use Rattle.block.specs.Block.{spanOf, startOf, endOf, cursorOf, spanSound, soundFrom, sound, inside, allInside, verdict, verdictOf, atEnd, allAtEnd, startsFrom, starts, Opening, opening, openOf}
@@ -114,6 +115,39 @@ module _ (dir cur : List ℕ) where
   pub each-at-end : ((i : ℕ) → i < 1290 → cursorOf cur i ≡ endOf dir i) → allAtEnd dir cur ≡ true
   unfolding allAtEnd atEnd
   each-at-end e = each-every (atEnd dir cur) 1290 0 (λ j h k. eq-eqb _ _ (e j (omega arith)))
+
+-- what one pass over both tables judges of a span
+unfoldable pub fine : ℕ → List ℕ → List ℕ → ℕ → Bool
+fine len dir cur i = both (inside dir cur i) (leb (endOf dir i) len)
+
+abbrev pub allFine : ℕ → List ℕ → List ℕ → Bool
+allFine len dir cur = each (fine len dir cur) 0 1290
+
+module _ (len : ℕ) (dir cur : List ℕ) where
+  fine-at : allFine len dir cur ≡ true → (i : ℕ) → i < 1290 → (inside dir cur i ≡ true) × (leb (endOf dir i) len ≡ true)
+  unfolding fine
+  fine-at t i h = both-true (inside dir cur i) (leb (endOf dir i) len) (every-each (fine len dir cur) 1290 0 i t (omega arith) (omega arith))
+
+  -- a cursor inside shows that the start isn't above the end
+  pub fine-sound : allFine len dir cur ≡ true → soundFrom len dir 0 1290 ≡ true
+  unfolding spanSound
+  fine-sound t =
+      each-every (spanSound len dir) 1290 0
+      (λ j h k.
+      let e = fine-at t j (omega arith) in
+      let c = cursor-inside dir cur j (e .0) in
+      both-of (le-leb (startOf dir j) (endOf dir j) (omega arith)) (e .1))
+
+  pub fine-inside : allFine len dir cur ≡ true → allInside dir cur ≡ true
+  unfolding allInside
+  fine-inside t = each-every (inside dir cur) 1290 0 (λ j h k. fine-at t j (omega arith) .0)
+
+  pub both-fine : soundFrom len dir 0 1290 ≡ true → allInside dir cur ≡ true → allFine len dir cur ≡ true
+  unfolding fine allInside spanSound
+  both-fine s t =
+      each-every (fine len dir cur) 1290 0
+      (λ j h k.
+      both-of (every-each (inside dir cur) 1290 0 j t h k) (both-true (leb (startOf dir j) (endOf dir j)) (leb (endOf dir j) len) (every-each (spanSound len dir) 1290 0 j s h k) .1))
 
 -- what a verdict says of each judgement
 saysSound : Verdict → Bool

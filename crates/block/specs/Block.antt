@@ -42,12 +42,9 @@ sound len dir cur = both (eqb (length dir) 2580) (both (eqb (length cur) 1290) (
 unfoldable pub inside : List ℕ → List ℕ → ℕ → Bool
 inside dir cur i = both (leb (startOf dir i) (cursorOf cur i)) (leb (cursorOf cur i) (endOf dir i))
 
-abbrev pub insideFrom : List ℕ → List ℕ → ℕ → ℕ → Bool
-insideFrom dir cur = each (inside dir cur)
-
 -- no cursor outside its span: 13 is given where this is false
 unfoldable pub allInside : List ℕ → List ℕ → Bool
-allInside dir cur = insideFrom dir cur 0 1290
+allInside dir cur = each (inside dir cur) 0 1290
 
 -- 1 comes before 13
 abbrev pub verdict : Bool → Bool → Verdict

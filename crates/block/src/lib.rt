@@ -120,29 +120,28 @@ fn sound(bytes: &[u8], dir: &[u32], cursors: &[u32]) -> bool
     spans_sound(reach(bytes), dir)
 }
 
-// Both in one pass over each table.
+// Both in one pass over each table: a cursor inside its span is told by two comparisons, which tell too that the span's
+// start isn't above its end. Only where a span fails is it asked, in a second pass, which of 1 and 13 it is.
 fn judge_spans(n: u32, dir: &[u32], cursors: &[u32]) -> Verdict
     requires { ⌜ (length (now dir) ≡ 2580) × (length (now cursors) ≡ 1290) ⌝ }
     ensures { λ r. ⌜ r ≡ verdict (soundFrom n (lent dir) 0 1290) (allInside (lent dir) (lent cursors)) ⌝ }
 {
-    let mut sound = true;
-    let mut inside = true;
+    let mut fine = true;
     let mut i: usize = 0;
     while i < Block::SPANS {
         let start = dir[2 * i];
         let end = dir[2 * i + 1];
         let cursor = cursors[i];
-        sound = sound & (start <= end) & (end <= n);
-        inside = inside & (start <= cursor) & (cursor <= end);
+        fine = fine & (start <= cursor) & (cursor <= end) & (end <= n);
         i += 1;
     }
-    if !sound {
-        return Verdict::Unsound;
+    if fine {
+        return Verdict::Inside;
     }
-    if inside {
-        Verdict::Inside
-    } else {
+    if spans_sound(n, dir) {
         Verdict::Outside
+    } else {
+        Verdict::Unsound
     }
 }
 

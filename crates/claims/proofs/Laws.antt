@@ -19,7 +19,7 @@ use Rattle.kept.proofs.Laws.{text-counted, text-counts-of, text-inside, entry-t
 use Rattle.claims.specs.declared.Verdict.{Verdict}
 use Rattle.claims.specs.declared.Verdict.the-variants.{Confirmed, Denied, Refused}
 use Rattle.claims.specs.Claims.{nameText, claimOf}
-use Rattle.claims.specs.Causes.{Answerable, wholeName, Cause, counts-outside, not-kept, text-outside, differs, agrees}
+use Rattle.claims.specs.Causes.{Answerable, wholeName, Cause, counts-outside, not-kept, text-outside, differs, agrees, HasCause, ConfirmedOf, DeniedOf, ElevenOf, ThirteenAtOf, ThirteenOf}
 
 module _ (number : ℕ) (claim : List ℕ) (s : State) (text names : List ℕ) where
   -- by the tests, in their order
@@ -44,38 +44,42 @@ module _ (number : ℕ) (claim : List ℕ) (s : State) (text names : List ℕ) w
     unfolding claimOf
     unequal c d = rw (← is) (took _ _ a (took _ _ (lt-ltb _ _ b) (took _ _ c (left _ _ d refl))))
 
-  -- from each cause its answer
-  pub confirmed-of : Answerable number s text names → claim ≡ wholeName number text names → claimOf number claim s text names ≡ Confirmed
-  confirmed-of t e = sym (equal (text-counts-of s text names (t .counts)) (t .below) refl (entry-text-of _ _ (t .inside)) (equal-same _ _ e))
+-- from each cause its answer
 
-  pub denied-of : Answerable number s text names → (claim ≡ wholeName number text names → ⊥) → claimOf number claim s text names ≡ Denied
-  denied-of t n = sym (unequal (text-counts-of s text names (t .counts)) (t .below) refl (entry-text-of _ _ (t .inside)) (same-differ _ _ n))
+pub confirmed-of : ConfirmedOf
+confirmed-of number claim s text names t e =
+    sym (equal number claim s text names (text-counts-of s text names (t .counts)) (t .below) refl (entry-text-of _ _ (t .inside)) (equal-same _ _ e))
 
-  pub eleven-of : TextCounted s text names → s .names ≤ number → claimOf number claim s text names ≡ Refused (refusal.At 11 number)
-  eleven-of t h = sym (unread (text-counts-of s text names t) h)
+pub denied-of : DeniedOf
+denied-of number claim s text names t n =
+    sym (unequal number claim s text names (text-counts-of s text names (t .counts)) (t .below) refl (entry-text-of _ _ (t .inside)) (same-differ _ _ n))
 
-  pub thirteen-at-of : TextCounted s text names → number < s .names → (TextInside s (entryAt names number) → ⊥) → claimOf number claim s text names ≡ Refused (refusal.At 13 number)
-  thirteen-at-of t h n = sym (outside (text-counts-of s text names t) h refl (fails (λ e. n (text-inside _ _ e))))
+pub eleven-of : ElevenOf
+eleven-of number claim s text names t h = sym (unread number claim s text names (text-counts-of s text names t) h)
 
-  pub thirteen-of : (TextCounted s text names → ⊥) → claimOf number claim s text names ≡ Refused (refusal.Plain 13)
-  thirteen-of n = sym (unsound (fails (λ e. n (text-counted s text names e))))
+pub thirteen-at-of : ThirteenAtOf
+thirteen-at-of number claim s text names t h n =
+    sym (outside number claim s text names (text-counts-of s text names t) h refl (fails (λ e. n (text-inside _ _ e))))
 
-  -- every claim has an answer with its cause
-  pub cause : Cause number claim s text names (claimOf number claim s text names)
-  cause =
-      by-test (textCounts s (length text) (room entrySize names))
-      (λ a. by-test (ltb number (s .names))
-      (λ b. by-test (entryText s (entryAt names number))
-      (λ c.
-      let t : Answerable number s text names = record { counts = text-counted s text names a; below = ltb-true _ _ b; inside = text-inside _ _ c } in
-      by-test (same claim (wholeName number text names))
-      (λ d. subst (Cause number claim s text names) (equal a (ltb-true _ _ b) refl c d) (agrees t (same-equal _ _ d)))
-      (λ d. subst (Cause number claim s text names) (unequal a (ltb-true _ _ b) refl c d) (differs t (differ-same _ _ d))))
-      (λ c. subst (Cause number claim s text names) (outside a (ltb-true _ _ b) refl c)
-      (text-outside (text-counted s text names a) (ltb-true _ _ b) (λ i. never (sym c ∙ entry-text-of _ _ i)))))
-      (λ b. subst (Cause number claim s text names) (unread a (ltb-false _ _ b)) (not-kept (text-counted s text names a) (ltb-false _ _ b))))
-      (λ a. subst (Cause number claim s text names) (unsound a) (counts-outside (λ t. never (sym a ∙ text-counts-of s text names t))))
+pub thirteen-of : ThirteenOf
+thirteen-of number claim s text names n = sym (unsound number claim s text names (fails (λ e. n (text-counted s text names e))))
 
+pub cause : HasCause
+cause number claim s text names =
+    by-test (textCounts s (length text) (room entrySize names))
+    (λ a. by-test (ltb number (s .names))
+    (λ b. by-test (entryText s (entryAt names number))
+    (λ c.
+    let t : Answerable number s text names = record { counts = text-counted s text names a; below = ltb-true _ _ b; inside = text-inside _ _ c } in
+    by-test (same claim (wholeName number text names))
+    (λ d. subst (Cause number claim s text names) (equal number claim s text names a (ltb-true _ _ b) refl c d) (agrees t (same-equal _ _ d)))
+    (λ d. subst (Cause number claim s text names) (unequal number claim s text names a (ltb-true _ _ b) refl c d) (differs t (differ-same _ _ d))))
+    (λ c. subst (Cause number claim s text names) (outside number claim s text names a (ltb-true _ _ b) refl c)
+    (text-outside (text-counted s text names a) (ltb-true _ _ b) (λ i. never (sym c ∙ entry-text-of _ _ i)))))
+    (λ b. subst (Cause number claim s text names) (unread number claim s text names a (ltb-false _ _ b)) (not-kept (text-counted s text names a) (ltb-false _ _ b))))
+    (λ a. subst (Cause number claim s text names) (unsound number claim s text names a) (counts-outside (λ t. never (sym a ∙ text-counts-of s text names t))))
+
+module _ (number : ℕ) (claim : List ℕ) (s : State) (text names : List ℕ) where
   -- from each answer its cause
   of-confirmed : Cause number claim s text names Confirmed → Answerable number s text names × (claim ≡ wholeName number text names)
   of-confirmed (agrees t e) = (t, e)
@@ -93,7 +97,7 @@ module _ (number : ℕ) (claim : List ℕ) (s : State) (text names : List ℕ) w
   of-thirteen (counts-outside n) = n
 
   caused : {v : Verdict} → claimOf number claim s text names ≡ v → Cause number claim s text names v
-  caused q = subst (Cause number claim s text names) q cause
+  caused q = subst (Cause number claim s text names) q (cause number claim s text names)
 
   pub confirmed : claimOf number claim s text names ≡ Confirmed → Answerable number s text names × (claim ≡ wholeName number text names)
   confirmed q = of-confirmed (caused q)

@@ -8,7 +8,7 @@ use Rattle.tables.specs.Tables.{entryAt}
 use Rattle.kept.specs.Inside.{TextCounted, TextInside}
 use Rattle.claims.specs.declared.Verdict.{Verdict}
 use Rattle.claims.specs.declared.Verdict.the-variants.{Confirmed, Denied, Refused}
-use Rattle.claims.specs.Claims.{nameText}
+use Rattle.claims.specs.Claims.{nameText, claimOf}
 
 -- the counts fit, the name is kept, and its text lies inside
 pub record Answerable (number : ℕ) (s : State) (text names : List ℕ) : Type 0 where
@@ -27,3 +27,31 @@ pub data Cause (number : ℕ) (claim : List ℕ) (s : State) (text names : List 
   text-outside : TextCounted s text names → number < s .names → (TextInside s (entryAt names number) → ⊥) → Cause number claim s text names (Refused (refusal.At 13 number))
   differs : Answerable number s text names → (claim ≡ wholeName number text names → ⊥) → Cause number claim s text names Denied
   agrees : Answerable number s text names → claim ≡ wholeName number text names → Cause number claim s text names Confirmed
+
+-- every claim has an answer with its cause
+abbrev pub HasCause : Type 0
+HasCause = (number : ℕ) (claim : List ℕ) (s : State) (text names : List ℕ) → Cause number claim s text names (claimOf number claim s text names)
+
+-- and each cause has its answer: "confirmed if its bytes are all of that name's bytes and nothing else, denied otherwise"
+abbrev pub ConfirmedOf : Type 0
+ConfirmedOf = (number : ℕ) (claim : List ℕ) (s : State) (text names : List ℕ)
+    → Answerable number s text names → claim ≡ wholeName number text names → claimOf number claim s text names ≡ Confirmed
+
+abbrev pub DeniedOf : Type 0
+DeniedOf = (number : ℕ) (claim : List ℕ) (s : State) (text names : List ℕ)
+    → Answerable number s text names → (claim ≡ wholeName number text names → ⊥) → claimOf number claim s text names ≡ Denied
+
+-- 11, a number that isn't below k
+abbrev pub ElevenOf : Type 0
+ElevenOf = (number : ℕ) (claim : List ℕ) (s : State) (text names : List ℕ)
+    → TextCounted s text names → s .names ≤ number → claimOf number claim s text names ≡ Refused (refusal.At 11 number)
+
+-- 13 for that entry's text
+abbrev pub ThirteenAtOf : Type 0
+ThirteenAtOf = (number : ℕ) (claim : List ℕ) (s : State) (text names : List ℕ)
+    → TextCounted s text names → number < s .names → (TextInside s (entryAt names number) → ⊥) → claimOf number claim s text names ≡ Refused (refusal.At 13 number)
+
+-- 13 for the counts
+abbrev pub ThirteenOf : Type 0
+ThirteenOf = (number : ℕ) (claim : List ℕ) (s : State) (text names : List ℕ)
+    → (TextCounted s text names → ⊥) → claimOf number claim s text names ≡ Refused (refusal.Plain 13)

@@ -1,20 +1,20 @@
 -- What is known of the classes of bytes.
 use Prim.Native.Nat.{ℕ, _+_, _≤_, _<_}
 use mathlib.Core.Path.{_≡_, refl, sym, ap, _∙_}
-use mathlib.Core.Bool.{Bool, true, false}
-use mathlib.Core.List.{List, [], _∷_}
+use mathlib.Core.Bool.{Bool, true, false, not}
+use mathlib.Core.List.{List, [], _∷_, _++_}
 use native.Mathlib.Omega.{arith}
 use borrow.Author.Needs.{needs}
-use borrow.Author.Tests.{le-leb, leb-true}
-use lib.Dec.{T, leb}
+use borrow.Author.Tests.{le-leb, leb-true, eqb-true, eqb-false}
+use lib.Dec.{T, leb, eqb}
 use lib.ListN.{length, getD}
 use Rattle.base.specs.Choice.{pick, both}
 use Rattle.base.specs.Memory.{part}
 use Rattle.base.proofs.Choice.{pick-true, pick-false, pick-either, both-true, both-of, both-left, by-test, never, fails}
 use Rattle.base.proofs.Table.{rule, follows}
 use Rattle.digits.specs.Digits.{isDigit, allDigits, padded, printed}
-use Rattle.base.proofs.Every.{every-none, every-one, every-part, every-weaker}
-use Rattle.base.proofs.Lists.{part-none}
+use Rattle.base.proofs.Every.{every-none, every-one, every-append, every-part, every-weaker}
+use Rattle.base.proofs.Lists.{part-none, part-last}
 use Rattle.digits.proofs.Laws.{digit-range, all-digits-padded, all-digits-printed}
 use Rattle.classes.specs.Classes.{isAllowed, allAllowed, isLetter, otherClass, digitClass, letterClass, classOf, tabledOf, classTable, classSize}
 
@@ -110,6 +110,12 @@ barred-tabled b e = by-test (isAllowed b) (λ a. absurd (omega (arith, tabled-al
 pub allowed-tabled : (b : ℕ) → (tabledOf b ≡ 0 → ⊥) → isAllowed b ≡ true
 allowed-tabled b f = by-test (isAllowed b) (λ a. a) (λ a. absurd (f (tabled-barred b a)))
 
+-- so 0 tells it
+pub told-allowed : (b : ℕ) {t : ℕ} → t ≡ tabledOf b → not (eqb t 0) ≡ isAllowed b
+told-allowed b {t} q = by-test (eqb t 0)
+    (λ z. ap not z ∙ sym (barred-tabled b (sym q ∙ eqb-true _ _ z)))
+    (λ z. ap not z ∙ sym (allowed-tabled b (λ e. eqb-false t 0 z (q ∙ e))))
+
 -- digits and letters are allowed, so that any other byte is of the class of others
 pub barred-class : (b : ℕ) → isAllowed b ≡ false → classOf b ≡ otherClass
 barred-class b e =
@@ -120,6 +126,13 @@ barred-class b e =
 
 pub allowed-one : (b : ℕ) → allAllowed (b ∷ []) ≡ isAllowed b
 allowed-one b = every-one isAllowed b
+
+-- one byte more
+pub allowed-then : (s : List ℕ) (b : ℕ) → allAllowed (s ++ b ∷ []) ≡ both (allAllowed s) (isAllowed b)
+allowed-then s b = every-append isAllowed s (b ∷ []) ∙ ap (both (allAllowed s)) (allowed-one b)
+
+pub allowed-more : (s : List ℕ) (at i : ℕ) → at ≤ i → i < length s → allAllowed (part s at i) ≡ true → isAllowed (getD s i 0) ≡ true → allAllowed (part s at (i + 1)) ≡ true
+allowed-more s at i h k e f = ap allAllowed (part-last s at i h k) ∙ allowed-then (part s at i) (getD s i 0) ∙ both-of e f
 
 pub allowed-digits : (l : List ℕ) → allDigits l ≡ true → allAllowed l ≡ true
 allowed-digits l e = every-weaker isDigit isAllowed digit-allowed l e

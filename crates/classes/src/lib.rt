@@ -57,19 +57,12 @@ pub fn class_in(table: &[u8; 256], b: u8) -> u8
     if t == BARRED { OTHER } else { t - 1 }
 }
 
-// Every byte of a part is one that SAM allows.
-pub fn allowed(table: &[u8; 256], bytes: &[u8], from: usize, to: usize) -> bool
-    requires { ⌜ (now table ≡ classTable) × ((from ≤ to) × (to ≤ length (now bytes))) ⌝ }
-    ensures { λ r. ⌜ r ≡ allAllowed (part (lent bytes) from to) ⌝ }
+// A byte is one that SAM allows, by the table.
+pub fn allowed_in(table: &[u8; 256], b: u8) -> bool
+    requires { ⌜ now table ≡ classTable ⌝ }
+    ensures { λ r. ⌜ r ≡ isAllowed b ⌝ }
 {
-    let mut i = from;
-    while i < to {
-        if tabled_in(table, bytes[i]) == BARRED {
-            return false;
-        }
-        i += 1;
-    }
-    true
+    tabled_in(table, b) != BARRED
 }
 
 fn between(low: u8, b: u8, high: u8) -> bool

@@ -1,9 +1,7 @@
--- A number has one code and one value: the code lies below 2^32, and the value is how often 2^32 goes into the rest.
-use Prim.Native.Nat.{ℕ, _^_, _<_}
-use mathlib.Core.Path.{_≡_}
+-- A number has one code and one value.
 use native.Mathlib.Omega.{arith}
-use Rattle.codes.specs.Codes.{packed}
+use Rattle.codes.specs.Codes.{packed, PackedOne}
 
-pub packed-one : (c v d w : ℕ) → c < 2 ^ 32 → d < 2 ^ 32 → packed c v ≡ packed d w → (c ≡ d) × (v ≡ w)
+pub packed-one : PackedOne
 unfolding packed
 packed-one c v d w h k e = omega (arith, e)

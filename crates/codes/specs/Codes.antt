@@ -1,6 +1,7 @@
 -- The numbers of the C boundary: a code with its value, a refusal, and the state.
 -- The low 32 bits are the code (0, the refusal's number, or 256 for "done"), the high 32 bits the value.
-use Prim.Native.Nat.{ℕ, _+_, _*_, _^_}
+use Prim.Native.Nat.{ℕ, _+_, _*_, _^_, _<_}
+use mathlib.Core.Path.{_≡_}
 use mathlib.Core.List.{List, [], _∷_}
 use lib.ListN.{getD}
 use Rattle.block.specs.declared.State.{State}
@@ -9,6 +10,10 @@ use Rattle.block.specs.declared.Refusal.the-variants as refusal
 
 unfoldable pub packed : ℕ → ℕ → ℕ
 packed code value = code + 2 ^ 32 * value
+
+-- a number has one code and one value: the code lies below 2^32, and the value is how often 2^32 goes into the rest
+abbrev pub PackedOne : Type 0
+PackedOne = (c v d w : ℕ) → c < 2 ^ 32 → d < 2 ^ 32 → packed c v ≡ packed d w → (c ≡ d) × (v ≡ w)
 
 -- no name goes with it
 abbrev pub noName : ℕ

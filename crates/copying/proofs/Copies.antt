@@ -9,7 +9,7 @@ use Rattle.base.specs.Memory.{written, part}
 use Rattle.base.proofs.Memory.{length-part, written-next}
 use Rattle.block.specs.declared.State.{State}
 use Rattle.block.specs.Streams.{dupStream}
-use Rattle.types.specs.Types.{Rules}
+use Rattle.numbering.specs.Types.{Rules}
 use Rattle.tables.specs.declared.Entry.{Entry}
 use Rattle.tables.specs.Tables.{entrySize, keeping, Table}
 use Rattle.kept.specs.Inside.{Counted, TextInside}

@@ -5,7 +5,7 @@ ghost use Prim.Native.Nat.{ℕ};
 ghost use lib.ListN.{length};
 ghost use Rattle.tables.specs.Tables.{keeping, tablesLent, inRows};
 ghost use Rattle.kept.specs.Inside.{Counted, TextInside};
-ghost use Rattle.types.specs.Types.{Rules};
+ghost use Rattle.numbering.specs.Types.{Rules};
 ghost use Rattle.sources.specs.Source.{source};
 ghost use Rattle.heads.specs.Headed.{Passable};
 ghost use Rattle.copying.specs.Copies.{dupOf, leavesRows};

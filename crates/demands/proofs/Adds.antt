@@ -9,7 +9,7 @@ use Rattle.outcomes.specs.Outcomes.{Outcome}
 use Rattle.outcomes.specs.Keeping.{kept}
 use Rattle.reads.specs.Reads.{readOf}
 use Rattle.reads.proofs.Holding.{Holds}
-use Rattle.demands.specs.Adds.{Adds}
+use Rattle.demands.specs.Adds.{Adds, ReadAdds}
 use Rattle.demands.specs.Refusals.{Ready, ReadCase, refuses, ends, keeps}
 use Rattle.demands.proofs.Lemmas.Ways.{read-case, ready-holds}
 use Rattle.demands.proofs.Lemmas.Making.{made, room-each}
@@ -23,6 +23,5 @@ adds-way s m i o h (keeps x first rows d r k g f) e =
     let n : m .state .names ≡ i = cc in
     subst (λ (j : ℕ). Adds s m j (kept m x first rows d)) n (kept-adds s m x first rows d r (made s m r x first rows d g) (room-each m x f) (h r .opened))
 
--- a read that keeps a name adds it and alters nothing else
-pub read-adds : (s : Source) (m : Kept) (i : ℕ) → readOf s m .answer ≡ answer.Kept i → Adds s m i (readOf s m)
+pub read-adds : ReadAdds
 read-adds s m i e = adds-way s m i (readOf s m) (ready-holds s m) (read-case s m) e

@@ -15,8 +15,8 @@ use Rattle.spans.specs.declared.Cursor.{Cursor}
 use Rattle.spans.specs.declared.NextByte.the-variants as byte
 use Rattle.block.specs.Streams.{typeStream, diffStream}
 use Rattle.tables.specs.Tables.{Kept, entryAt, Table}
-use Rattle.types.specs.declared.TokenType.{TokenType}
-use Rattle.types.specs.Types.{typeOf}
+use Rattle.numbering.specs.declared.TokenType.{TokenType}
+use Rattle.numbering.specs.Types.{typeOf}
 use Rattle.tokens.specs.Tokens.{bytesOf}
 use Rattle.sources.specs.Source.{Source, earlier, byteIn}
 use Rattle.values.specs.declared.Step.{Step}
@@ -40,7 +40,7 @@ use Rattle.demands.proofs.Lemmas.Stops.{stop-number}
 use Rattle.demands.proofs.Lemmas.Ways.{read-case}
 use Rattle.demands.proofs.Lemmas.Adding.{entry-kept}
 use Rattle.demands.proofs.Refusals.{leans-read, read-named}
-use Rattle.types.proofs.Laws.{dup-not-diff}
+use Rattle.numbering.proofs.Laws.{dup-not-diff}
 
 -- rule 2
 pub only-afresh : OnlyAfresh

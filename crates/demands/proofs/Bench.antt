@@ -12,8 +12,8 @@ use Rattle.digits.specs.Digits.{low, padded, countWithin, digitCount, printed, 
 use Rattle.classes.specs.Classes.{isAllowed, isLetter, classOf}
 use Rattle.spans.specs.Spans.{byteAt, four, fourAt, fourBytes, zeroFrom, textEnd, textAt}
 use Rattle.block.specs.Block.{spanOf, startOf, endOf, cursorOf}
-use Rattle.types.specs.declared.TokenType.the-variants.{Match}
-use Rattle.types.specs.Types.{numbersOf, typeOf, typeNumber}
+use Rattle.numbering.specs.declared.TokenType.the-variants.{Match}
+use Rattle.numbering.specs.Types.{numbersOf, typeOf, typeNumber}
 use Rattle.tokens.specs.Tokens.{bytesOf, kindOf, numberOf, widthOf, lengthOf, rowOf}
 use Rattle.tables.specs.Tables.{room, entryAt, rowAt, rowRoom, putRows, allNumbers}
 use Rattle.kept.specs.Judgement.{entryText, entryRows, rowKind, rowFits, rowsFit, earlierFits}

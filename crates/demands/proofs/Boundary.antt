@@ -18,17 +18,13 @@ use Rattle.block.specs.declared.Refusal.{Refusal}
 use Rattle.block.specs.declared.Refusal.the-variants as refusal
 use Rattle.block.specs.declared.Opened.the-variants as opened
 use Rattle.block.specs.Block.{Opening, opening, openOf, starts, state}
-use Rattle.block.specs.Streams.{diffStream}
 use Rattle.tables.specs.Tables.{Kept, keeping, Table}
-use Rattle.types.specs.Types.{Rules}
+use Rattle.numbering.specs.Types.{Rules}
 use Rattle.sources.specs.Source.{Source, source}
 use Rattle.entries.specs.declared.Answer.{Answer}
 use Rattle.entries.specs.declared.Answer.the-variants as answer
 use Rattle.outcomes.specs.Outcomes.{Outcome, outcome}
 use Rattle.outcomes.specs.Keeping.{kept}
-use Rattle.earlier.specs.Back.{none}
-use Rattle.naming.specs.Naming.{diffOf}
-use Rattle.reads.specs.Reads.{readOf}
 use Rattle.reading.specs.Blocks.{openedOf, blockOf}
 use Rattle.claims.specs.declared.Verdict.{Verdict}
 use Rattle.claims.specs.declared.Verdict.the-variants as verdict
@@ -43,16 +39,16 @@ use Rattle.opencalls.specs.Calls.{openedNumber}
 use Rattle.writecalls.specs.Calls.{writtenNumber}
 use Rattle.answers.specs.Answers.{readNumber, verdictNumber}
 use Rattle.codes.proofs.Laws.{packed-one}
-use Rattle.opencalls.specs.Calls.{Opens, opens, openedState, opensOf, openCall}
+use Rattle.opencalls.specs.Calls.{opens, openedState, opensOf, openCall}
 use Rattle.readcalls.specs.Calls.{Reads, reads, readsOf, readCall, blockCall}
 use Rattle.claimcalls.specs.Calls.{claimCall}
-use Rattle.writecalls.specs.Calls.{Writes, writes, writtenTotals, writesOf, writeCall}
+use Rattle.writecalls.specs.Calls.{writes, writtenTotals, writesOf, writeCall}
 use Rattle.demands.specs.Runs as runs
 use Rattle.demands.specs.Runs.{Lent, lent, read, left, Fresh, Keeps, Call, reading, claiming, after, run, claimed, nameAt}
 use Rattle.demands.specs.Refusals as cases
-use Rattle.demands.specs.Refusals.{OpenCase, WriteCase, Ready, Heads, Why, ReadCase, refuses, ends, keeps}
+use Rattle.demands.specs.Refusals.{OpenCase, WriteCase, Why, ReadCase, refuses, ends, keeps}
 use Rattle.demands.specs.Right.{Judged, Sane, left-over, by-rules, Demand3}
-use Rattle.demands.specs.Boundary.{Stopped, NumberTells, toldRefusal, toldRead, toldOpening, toldVerdict, toldWriting, OpeningTold, ReadTold, BlockTold, VerdictTold, WritingTold, begun, lentFrom, callOn, callsOn, KeepCalls, no-call, next-call, WholeCall, StopSays, says-done, says-left-over, says-by-rules, Faultless, BlockSays, ReadCallSays, claimOn, JudgedCall, Demand3Call, EachCall}
+use Rattle.demands.specs.Boundary.{Stopped, StateBack, OpenCallStopped, OpenCallStops, ReadCallStopped, ReadCallStops, WriteCallStopped, WriteCallStops, BlockCallStopped, NumberTells, SameAnswer, toldRefusal, toldRead, toldOpening, toldVerdict, toldWriting, OpeningTold, ReadTold, BlockTold, VerdictTold, WritingTold, begun, lentFrom, callOn, callsOn, KeepCalls, no-call, next-call, WholeCall, BlockCallReads, StopSays, says-done, says-left-over, says-by-rules, Faultless, BlockSays, BlockCallSays, ReadCallSays, claimOn, JudgedCall, Demand3Call, EachCall, CallsDemand3, BlockCallsDemand3, CallsEach, BlockCallsEach, AfreshCall, OneOpenCall, OneReadCall, OneBlockCall, OneClaimCall, OneWriteCall}
 use Rattle.demands.specs.Untouched.{Whole}
 use Rattle.demands.proofs.Lemmas.Ways.{read-case}
 use Rattle.demands.proofs.Refusals.{open-case, write-case, by-reason}
@@ -62,8 +58,7 @@ use Rattle.demands.proofs.Demand3.{read-or-not, plain-reads, demand-3, 
 use Rattle.demands.proofs.Contracts.{one-outcome}
 use Rattle.demands.proofs.Afresh.{starts-afresh}
 
--- a state of four numbers goes out as it came in: aq_read and aq_read_block write it on every path
-pub state-back : (l : List ℕ) → length l ≡ 4 → stateOut (stateIn l) ≡ l
+pub state-back : StateBack
 unfolding stateIn stateOut
 state-back [] e = absurd (omega arith)
 state-back (a ∷ []) e = absurd (omega arith)
@@ -86,8 +81,7 @@ numbered r v h k = record { code = r; value = v; is = refl; some = h; low = omeg
 tells-of : {A : Type 0} (told : ℕ → ℕ → A) {a : A} (code value : ℕ) → code < 2 ^ 32 → a ≡ told code value → NumberTells (packed code value) told a
 tells-of told code value h e = record { code = code; value = value; low = h; is = refl; one = λ c v k q. packed-one c v code value k h (sym q); tells = e }
 
--- two answers under one number are the same answer: two of reads or of whole blocks, two of claims, two of openings with one count, two of writings with the same totals
-pub same-answer : {A : Type 0} {told : ℕ → ℕ → A} {a b : A} (m n : ℕ) → NumberTells m told a → NumberTells n told b → m ≡ n → a ≡ b
+pub same-answer : {A : Type 0} {told : ℕ → ℕ → A} {a b : A} → SameAnswer told a b
 same-answer {told = told} m n x y e =
     let q : (y .code ≡ x .code) × (y .value ≡ x .value) = x .one (y .code) (y .value) (y .low) (e ∙ y .is) in
     x .tells ∙ sym (y .tells ∙ ap (λ (c : ℕ). told c (y .value)) (q .0) ∙ ap (told (x .code)) (q .1))
@@ -207,7 +201,6 @@ number-tells-writing rules input dir bytes totals = writing-tells rules input di
 
 -- What a call that is refused leaves
 
--- opening that answers another code than 0 leaves the cursors and the state
 opening-stopped : (len : ℕ) (dir : List ℕ) (count : ℕ) (cur st : List ℕ) (o : Opening) → OpenCase len dir count cur o
     → Stopped (opensOf st o .number) → opensOf st o ≡ opens (opensOf st o .number) cur st
 unfolding opensOf openedNumber openedState
@@ -215,8 +208,7 @@ opening-stopped len dir count cur st o (cases.opens-1 a) h = refl
 opening-stopped len dir count cur st o (cases.opens-12 a b) h = refl
 opening-stopped len dir count cur st o (cases.opens a b) h = absurd (not-stopped 0 h)
 
-pub open-call-stopped : (bytes dir : List ℕ) (count : ℕ) (cur st : List ℕ) → Stopped (openCall bytes dir count cur st .number)
-    → openCall bytes dir count cur st ≡ opens (openCall bytes dir count cur st .number) cur st
+pub open-call-stopped : OpenCallStopped
 unfolding openCall
 open-call-stopped bytes dir count cur st = opening-stopped (length bytes) dir count cur st _ (open-case (length bytes) dir count cur)
 
@@ -227,13 +219,10 @@ opening-stops len dir count cur st o (cases.opens-1 a) r e = numbered 1 _ (omega
 opening-stops len dir count cur st o (cases.opens-12 a b) r e = numbered 12 _ (omega arith) (omega arith)
 opening-stops len dir count cur st o (cases.opens a b) r e = let z : _≡_ {A = ℕ} 0 1 = cc in absurd (omega arith)
 
--- and it does where it is refused
-pub open-call-stops : (bytes dir : List ℕ) (count : ℕ) (cur st : List ℕ) (r : Refusal) → openOf (length bytes) dir count cur .answer ≡ opened.Refused r
-    → Stopped (openCall bytes dir count cur st .number)
+pub open-call-stops : OpenCallStops
 unfolding openCall
 open-call-stops bytes dir count cur st = opening-stops (length bytes) dir count cur st _ (open-case (length bytes) dir count cur)
 
--- a read that answers another code than 0, refused or done, leaves the cursors, the text, the names, the rows and the state
 reading-stopped : (s : Source) (m : Kept) (o : Outcome) → ReadCase s m o → Stopped (readsOf o .number)
     → readsOf o ≡ reads (readsOf o .number) (s .cur) (m .text) (m .names) (m .rows) (stateOut (m .state))
 unfolding readsOf readNumber kept
@@ -241,8 +230,7 @@ reading-stopped s m o (refuses q y) h = refl
 reading-stopped s m o (ends a b c) h = refl
 reading-stopped s m o (keeps x first rows d a b c f) h = absurd (not-stopped (m .state .names) h)
 
-pub read-call-stopped : (rules : Rules) (bytes dir cur text names : List ℕ) (rows : Table) (st : List ℕ) → length st ≡ 4 → Stopped (readCall rules bytes dir cur text names rows st .number)
-    → readCall rules bytes dir cur text names rows st ≡ reads (readCall rules bytes dir cur text names rows st .number) cur text names rows st
+pub read-call-stopped : ReadCallStopped
 unfolding readCall
 read-call-stopped rules bytes dir cur text names rows st l h =
     reading-stopped (source rules bytes dir cur) (keeping (stateIn st) text names rows) _ (read-case _ _) h
@@ -263,22 +251,17 @@ case-stops s m o (refuses q y) f = why-code s m q y
 case-stops s m o (ends a b c) f = record { code = 256; value = _; is = refl; some = omega arith; low = omega arith }
 case-stops s m o (keeps x first rows d a b c e) f = absurd (f (m .state .names) refl)
 
--- and a read does where it keeps no name
-pub read-call-stops : (rules : Rules) (bytes dir cur text names : List ℕ) (rows : Table) (st : List ℕ)
-    → ((i : ℕ) → readOf (source rules bytes dir cur) (keeping (stateIn st) text names rows) .answer ≡ answer.Kept i → ⊥)
-    → Stopped (readCall rules bytes dir cur text names rows st .number)
+pub read-call-stops : ReadCallStops
 unfolding readCall
 read-call-stops rules bytes dir cur text names rows st = case-stops (source rules bytes dir cur) (keeping (stateIn st) text names rows) _ (read-case _ _)
 
--- writing that answers another code than 0 leaves the directory, the bytes and the totals
 writing-stopped : (dir bytes totals d b : List ℕ) (a : WriteAnswer) → ((r : Refusal) → a ≡ written.Refused r → (d ≡ dir) × (b ≡ bytes))
     → Stopped (writtenNumber a) → writes (writtenNumber a) d b (writtenTotals totals a) ≡ writes (writtenNumber a) dir bytes totals
 unfolding writtenNumber writtenTotals
 writing-stopped dir bytes totals d b (written.Written n total) f h = absurd (not-stopped total h)
 writing-stopped dir bytes totals d b (written.Refused r) f h = let e = f r refl in rw (e .0, e .1)
 
-pub write-call-stopped : (rules : Rules) (input dir bytes totals : List ℕ) → Stopped (writeCall rules input dir bytes totals .number)
-    → writeCall rules input dir bytes totals ≡ writes (writeCall rules input dir bytes totals .number) dir bytes totals
+pub write-call-stopped : WriteCallStopped
 unfolding writeCall writesOf
 write-call-stopped rules input dir bytes totals = writing-stopped dir bytes totals _ _ (writeOf rules input dir bytes .answer) (write-refused rules input dir bytes)
 
@@ -290,13 +273,10 @@ writes-stops rules input dir bytes totals w (cases.writes-8 n a c b) r e = numbe
 writes-stops rules input dir bytes totals w (cases.writes-9 a c h l) r e = numbered 9 _ (omega arith) (omega arith)
 writes-stops rules input dir bytes totals w (cases.writes a c h l) r e = let z : _≡_ {A = ℕ} 0 1 = cc in absurd (omega arith)
 
--- and it does where it is refused
-pub write-call-stops : (rules : Rules) (input dir bytes totals : List ℕ) (r : Refusal) → writeOf rules input dir bytes .answer ≡ written.Refused r
-    → Stopped (writeCall rules input dir bytes totals .number)
+pub write-call-stops : WriteCallStops
 unfolding writeCall
 write-call-stops rules input dir bytes totals = writes-stops rules input dir bytes totals _ (write-case rules input dir bytes)
 
--- a whole-block read whose opening answers another code than 0 answers that, and leaves everything as it was
 block-stopped : (s : Source) (m : Kept) (count : ℕ) (st : List ℕ) (o : Opening) → OpenCase (length (s .bytes)) (s .dir) count (s .cur) o → Stopped (opensOf st o .number)
     → readsOf (openedOf s m count (o .cursors) (o .answer)) ≡ reads (opensOf st o .number) (s .cur) (m .text) (m .names) (m .rows) (stateOut (m .state))
 unfolding readsOf readNumber opensOf openedNumber openedOf
@@ -304,8 +284,7 @@ block-stopped s m count st o (cases.opens-1 a) h = refl
 block-stopped s m count st o (cases.opens-12 a b) h = refl
 block-stopped s m count st o (cases.opens a b) h = absurd (not-stopped 0 h)
 
-pub block-call-stopped : (rules : Rules) (bytes dir : List ℕ) (count : ℕ) (cur text names : List ℕ) (rows : Table) (st : List ℕ) → length st ≡ 4 → Stopped (openCall bytes dir count cur st .number)
-    → blockCall rules bytes dir count cur text names rows st ≡ reads (openCall bytes dir count cur st .number) cur text names rows st
+pub block-call-stopped : BlockCallStopped
 unfolding blockCall blockOf openCall
 block-call-stopped rules bytes dir count cur text names rows st l h =
     block-stopped (source rules bytes dir cur) (keeping (stateIn st) text names rows) count st _ (open-case (length bytes) dir count cur) h
@@ -450,9 +429,9 @@ module _ (rules : Rules) (bytes dir : List ℕ) (count : ℕ) (cur text names : 
   four = ap (λ (o : Opening). length (opensOf st o .state)) accepts
 
   -- a whole-block read leaves what opening and the reads before the last did
-  pub block-call-reads : WholeCall rules bytes dir (begun (openCall bytes dir count cur st) text names rows) (blockCall rules bytes dir count cur text names rows st)
+  whole : WholeCall rules bytes dir start block
   unfolding blockCall callOn readCall lentFrom read
-  block-call-reads =
+  whole =
       let w : Whole rules bytes dir first (blockOf (source rules bytes dir cur) (keeping (stateIn st) text names rows) count) = block-reads _ _ count _ _ accepts in
       let last : Reads = callsOn rules bytes dir start (replicate (w .names) reading) in
       let here : lentFrom last ≡ w .last =
@@ -475,66 +454,66 @@ module _ (rules : Rules) (bytes dir : List ℕ) (count : ℕ) (cur text names : 
             ∙ ap (λ (o : Reads). reads (o .number) (last .cursors) (last .text) (last .names) (last .rows) (last .state)) (sym leaves);
       }
 
-  -- demand 3: any sequence of reads and claims, refused ones too
-  pub calls-demand-3 : (calls : List Call)
-      → Demand3Call rules bytes dir (lentFrom (begun (openCall bytes dir count cur st) text names rows)) (callsOn rules bytes dir (begun (openCall bytes dir count cur st) text names rows) calls)
-  calls-demand-3 calls =
+  -- demand 3
+  from-opening : (calls : List Call) → Demand3Call rules bytes dir (lentFrom start) (callsOn rules bytes dir start calls)
+  from-opening calls =
       demand-3-call rules bytes dir (lentFrom start) _ _ (calls-run rules bytes dir calls start)
       (demand-3 rules bytes dir count (lentFrom start) fresh-start calls)
 
-  -- and from a whole-block read on
-  pub block-calls-demand-3 : (calls : List Call)
-      → Demand3Call rules bytes dir (lentFrom (begun (openCall bytes dir count cur st) text names rows)) (callsOn rules bytes dir (blockCall rules bytes dir count cur text names rows st) calls)
+  from-block : (calls : List Call) → Demand3Call rules bytes dir (lentFrom start) (callsOn rules bytes dir block calls)
   unfolding blockCall readsOf lentFrom left stateIn stateOut
-  block-calls-demand-3 calls =
+  from-block calls =
       demand-3-call rules bytes dir (lentFrom start) _ _ (calls-run rules bytes dir calls block)
       (subst (λ (l : Lent). Demand3 rules bytes dir l (run rules bytes dir (lentFrom block) calls)) (sym lends)
       (block-demand-3 (source rules bytes dir cur) (keeping (stateIn st) text names rows) count _ _ accepts calls))
 
-  -- of each of the numbers on the way
-  pub calls-each : (calls : List Call)
-      → EachCall rules bytes dir (lentFrom (begun (openCall bytes dir count cur st) text names rows)) (begun (openCall bytes dir count cur st) text names rows) calls
-  calls-each calls = each-call rules bytes dir (lentFrom start) calls start calls-demand-3
-
-  pub block-calls-each : (calls : List Call)
-      → EachCall rules bytes dir (lentFrom (begun (openCall bytes dir count cur st) text names rows)) (blockCall rules bytes dir count cur text names rows st) calls
-  block-calls-each calls = each-call rules bytes dir (lentFrom start) calls block block-calls-demand-3
-
-  -- a whole block past its opening: never 1, 12 or 13
-  pub block-call-says : BlockSays (blockCall rules bytes dir count cur text names rows st)
+  block-says : BlockSays block
   unfolding callOn callsOn
-  block-call-says =
-      let w : WholeCall rules bytes dir start block = block-call-reads in
+  block-says =
+      let w : WholeCall rules bytes dir start block = whole in
       let k : ℕ = stateIn (block .state) .names in
       -- one more read is the last one again
       let again : callOn rules bytes dir block reading ≡ block = ap (λ (r : Reads). callOn rules bytes dir r reading) (w .stays) ∙ sym (w .leaves) in
-      let r : ReadCallSays k (block .number) = subst (λ (o : Reads). ReadCallSays k (o .number)) again (block-calls-demand-3 [] .reads) in
+      let r : ReadCallSays k (block .number) = subst (λ (o : Reads). ReadCallSays k (o .number)) again (from-block [] .reads) in
       record {
         says = ⊎-elim (λ (e : block .number ≡ packed 0 k). absurd (not-stopped k (subst Stopped e (w .stops)))) (λ (h : StopSays k (block .number)). h) (r .says);
         faultless = r .faultless;
       }
 
--- C-11: a read of a name that starts afresh is rule 4 with no earlier name, whatever the tables hold
-pub afresh-call : (rules : Rules) (bytes dir cur text names : List ℕ) (rows : Table) (st : List ℕ)
-    → Ready (source rules bytes dir cur) (keeping (stateIn st) text names rows) → (stateIn st .names ≡ stateIn st .count → ⊥) → Heads (source rules bytes dir cur) (rules .numbers .diff) diffStream 0
-    → readCall rules bytes dir cur text names rows st
-    ≡ readsOf (diffOf (source rules bytes dir cur) (keeping (stateIn st) text names rows) 0 (none (keeping (stateIn st) text names rows)))
+pub block-call-reads : BlockCallReads
+block-call-reads = whole
+
+pub calls-demand-3 : CallsDemand3
+calls-demand-3 = from-opening
+
+pub block-calls-demand-3 : BlockCallsDemand3
+block-calls-demand-3 = from-block
+
+pub calls-each : CallsEach
+calls-each rules bytes dir count cur text names rows st v fresh calls = each-call rules bytes dir _ calls _ (calls-demand-3 rules bytes dir count cur text names rows st v fresh)
+
+pub block-calls-each : BlockCallsEach
+block-calls-each rules bytes dir count cur text names rows st v fresh calls = each-call rules bytes dir _ calls _ (block-calls-demand-3 rules bytes dir count cur text names rows st v fresh)
+
+pub block-call-says : BlockCallSays
+block-call-says = block-says
+
+-- C-11
+pub afresh-call : AfreshCall
 unfolding readCall
 afresh-call rules bytes dir cur text names rows st ready more g = ap readsOf (starts-afresh (source rules bytes dir cur) (keeping (stateIn st) text names rows) ready more g .reads)
 
--- each contract of an export has one outcome only
-pub one-open-call : (bytes dir : List ℕ) (count : ℕ) (cur st : List ℕ) (x y : Opens) → x ≡ openCall bytes dir count cur st → y ≡ openCall bytes dir count cur st → x ≡ y
+pub one-open-call : OneOpenCall
 one-open-call bytes dir count cur st x y = one-outcome
 
-pub one-read-call : (rules : Rules) (bytes dir cur text names : List ℕ) (rows : Table) (st : List ℕ) (x y : Reads) → x ≡ readCall rules bytes dir cur text names rows st → y ≡ readCall rules bytes dir cur text names rows st → x ≡ y
+pub one-read-call : OneReadCall
 one-read-call rules bytes dir cur text names rows st x y = one-outcome
 
-pub one-block-call : (rules : Rules) (bytes dir : List ℕ) (count : ℕ) (cur text names : List ℕ) (rows : Table) (st : List ℕ) (x y : Reads)
-    → x ≡ blockCall rules bytes dir count cur text names rows st → y ≡ blockCall rules bytes dir count cur text names rows st → x ≡ y
+pub one-block-call : OneBlockCall
 one-block-call rules bytes dir count cur text names rows st x y = one-outcome
 
-pub one-claim-call : (number : ℕ) (claim text names st : List ℕ) (x y : ℕ) → x ≡ claimCall number claim text names st → y ≡ claimCall number claim text names st → x ≡ y
+pub one-claim-call : OneClaimCall
 one-claim-call number claim text names st x y = one-outcome
 
-pub one-write-call : (rules : Rules) (input dir bytes totals : List ℕ) (x y : Writes) → x ≡ writeCall rules input dir bytes totals → y ≡ writeCall rules input dir bytes totals → x ≡ y
+pub one-write-call : OneWriteCall
 one-write-call rules input dir bytes totals x y = one-outcome

@@ -5,78 +5,66 @@ use mathlib.Core.Path.{_≡_, refl, sym, ap, _∙_, subst}
 use mathlib.Core.List.{List, [], _∷_}
 use mathlib.Core.Logic.{⊎-elim}
 use native.Mathlib.Omega.{arith}
-use lib.ListN.{length}
 use Rattle.comparing.specs.Same.{same}
 use Rattle.base.proofs.Choice.{by-test}
 use Rattle.comparing.proofs.Equal.{same-equal, differ-same}
 use Rattle.base.proofs.Numbers.{lt-or-ge}
 use Rattle.block.specs.declared.Refusal.{Refusal}
-use Rattle.block.specs.declared.State.{State}
 use Rattle.block.specs.declared.Opened.the-variants as opened
-use Rattle.block.specs.Block.{Opening, opening, openOf}
+use Rattle.block.specs.Block.{Opening}
 use Rattle.block.proofs.Laws.{at-end-each}
-use Rattle.tables.specs.Tables.{Kept, keeping}
+use Rattle.tables.specs.Tables.{Kept}
 use Rattle.sources.specs.Source.{Source, source}
 use Rattle.entries.specs.declared.Answer.the-variants as answer
 use Rattle.outcomes.specs.Outcomes.{Outcome}
 use Rattle.outcomes.specs.Keeping.{kept}
-use Rattle.reads.specs.Reads.{readOf}
-use Rattle.reading.specs.Blocks.{blockOf}
-use Rattle.claims.specs.declared.Verdict.{Verdict}
-use Rattle.claims.specs.Claims.{claimOf}
-use Rattle.writing.specs.Writes.{Writing, writeOf}
-use Rattle.demands.specs.Runs.{Lent, lent, read, left, Fresh, Call, reading, claiming, after, run, claimed, nameAt}
+use Rattle.demands.specs.Runs.{Lent, lent, freshOver, read, left, Call, reading, claiming, after, run, claimed, nameAt}
 use Rattle.demands.specs.Refusals.{ReadCase, refuses, ends, keeps}
 use Rattle.demands.specs.Right.{Judged, Sane, Demand3}
-use Rattle.demands.specs.Traces.{Seen, nothing, a-read, a-claim, ReadSays, next-name, all-read, stops, ClaimSays, is-name, is-other, not-read, EachSeen}
-use Rattle.demands.specs.Untouched.{Untouched, Whole, Unwritten}
+use Rattle.demands.specs.Traces.{Seen, nothing, a-read, a-claim, ReadSays, next-name, all-read, stops, ClaimSays, is-name, is-other, not-read, EachSeen, Demand3Seen, BlockDemand3Seen}
+use Rattle.demands.specs.Contracts.{OneOutcome, OneOpening, OneRead, OneBlock, OneVerdict, OneWriting}
+use Rattle.demands.specs.Untouched.{Untouched, Whole, Unwritten, OpeningUntouched, ReadUntouched, WritingUntouched, BlockUntouched, BlockKeeps}
 use Rattle.demands.proofs.Lemmas.Ways.{read-case}
 use Rattle.demands.proofs.Untouched.{read-refused, open-refused, block-refused, block-reads}
 use Rattle.demands.proofs.Unwritten.{write-refused}
 use Rattle.demands.proofs.Demand3.{demand-3, block-demand-3}
-use Rattle.types.specs.Types.{Rules}
+use Rattle.numbering.specs.Types.{Rules}
 
--- two outcomes that meet one equation are the same outcome
-pub one-outcome : {A : Type 0} {meant x y : A} → x ≡ meant → y ≡ meant → x ≡ y
+pub one-outcome : {A : Type 0} {meant x y : A} → OneOutcome meant x y
 one-outcome p q = p ∙ sym q
 
-pub one-opening : (len : ℕ) (dir : List ℕ) (count : ℕ) (cur : List ℕ) (x y : Opening) → x ≡ openOf len dir count cur → y ≡ openOf len dir count cur → x ≡ y
+pub one-opening : OneOpening
 one-opening len dir count cur x y = one-outcome
 
-pub one-read : (s : Source) (m : Kept) (x y : Outcome) → x ≡ readOf s m → y ≡ readOf s m → x ≡ y
+pub one-read : OneRead
 one-read s m x y = one-outcome
 
-pub one-block : (s : Source) (m : Kept) (count : ℕ) (x y : Outcome) → x ≡ blockOf s m count → y ≡ blockOf s m count → x ≡ y
+pub one-block : OneBlock
 one-block s m count x y = one-outcome
 
-pub one-verdict : (number : ℕ) (claim : List ℕ) (s : State) (text names : List ℕ) (x y : Verdict)
-    → x ≡ claimOf number claim s text names → y ≡ claimOf number claim s text names → x ≡ y
+pub one-verdict : OneVerdict
 one-verdict number claim s text names x y = one-outcome
 
-pub one-writing : (rules : Rules) (input dir bytes : List ℕ) (x y : Writing) → x ≡ writeOf rules input dir bytes → y ≡ writeOf rules input dir bytes → x ≡ y
+pub one-writing : OneWriting
 one-writing rules input dir bytes x y = one-outcome
 
 -- demand 1 of the code
-pub opening-untouched : (len : ℕ) (dir : List ℕ) (count : ℕ) (cur : List ℕ) (o : Opening) → o ≡ openOf len dir count cur
-    → (r : Refusal) → o .answer ≡ opened.Refused r → o .cursors ≡ cur
+pub opening-untouched : OpeningUntouched
 opening-untouched len dir count cur o e =
     subst (λ (x : Opening). (r : Refusal) → x .answer ≡ opened.Refused r → x .cursors ≡ cur) (sym e) (open-refused len dir count cur)
 
-pub read-untouched : (s : Source) (m : Kept) (o : Outcome) → o ≡ readOf s m → (r : Refusal) → o .answer ≡ answer.Refused r → Untouched s m o
+pub read-untouched : ReadUntouched
 read-untouched s m o e = subst (λ (x : Outcome). (r : Refusal) → x .answer ≡ answer.Refused r → Untouched s m x) (sym e) (read-refused s m)
 
-pub writing-untouched : (rules : Rules) (input dir bytes : List ℕ) (w : Writing) → w ≡ writeOf rules input dir bytes → Unwritten dir bytes w
+pub writing-untouched : WritingUntouched
 writing-untouched rules input dir bytes w e = subst (Unwritten dir bytes) (sym e) (write-refused rules input dir bytes)
 
-pub block-untouched : (s : Source) (m : Kept) (count : ℕ) (o : Outcome) → o ≡ blockOf s m count
-    → (r : Refusal) → openOf (length (s .bytes)) (s .dir) count (s .cur) .answer ≡ opened.Refused r → (o .answer ≡ answer.Refused r) × Untouched s m o
+pub block-untouched : BlockUntouched
 block-untouched s m count o e r f = subst (λ (x : Outcome). (x .answer ≡ answer.Refused r) × Untouched s m x) (sym e) (block-refused s m count r f)
 
-pub block-keeps : (s : Source) (m : Kept) (count : ℕ) (o : Outcome) → o ≡ blockOf s m count
-    → (st : State) (cur : List ℕ) → openOf (length (s .bytes)) (s .dir) count (s .cur) ≡ opening (opened.Fresh st) cur
-    → Whole (s .rules) (s .bytes) (s .dir) (lent cur (keeping st (m .text) (m .names) (m .rows))) o
+pub block-keeps : BlockKeeps
 block-keeps s m count o e st cur f =
-    subst (Whole (s .rules) (s .bytes) (s .dir) (lent cur (keeping st (m .text) (m .names) (m .rows)))) (sym e) (block-reads s m count st cur f)
+    subst (Whole (s .rules) (s .bytes) (s .dir) (freshOver m st cur)) (sym e) (block-reads s m count st cur f)
 
 -- what was seen of calls that meet their contracts is what the definitions run to
 pub seen-run : (rules : Rules) (bytes dir : List ℕ) (l z : Lent) (calls : List Call) → Seen rules bytes dir l calls z → z ≡ run rules bytes dir l calls
@@ -132,17 +120,11 @@ module _ (rules : Rules) (bytes dir : List ℕ) (f : Lent) where
   last-seen l z (c ∷ cs) (a-read a b o calls e t) h = last-seen (left o) z cs t (h .1 .1)
   last-seen l z (c ∷ cs) (a-claim a b number claim v calls e t) h = last-seen l z cs t (h .1 .1)
 
--- demand 3 of the code, of each call that was seen
-pub demand-3-seen : (rules : Rules) (bytes dir : List ℕ) (count : ℕ) (l z : Lent) → Fresh bytes dir count l → (calls : List Call) (t : Seen rules bytes dir l calls z)
-    → EachSeen rules bytes dir l l z calls t
+pub demand-3-seen : Demand3Seen
 demand-3-seen rules bytes dir count l z f calls t = each-seen rules bytes dir l l z calls t (demand-3 rules bytes dir count l f)
 
--- and from a whole-block read on
-pub block-demand-3-seen : (s : Source) (m : Kept) (count : ℕ) (st : State) (cur : List ℕ)
-    → openOf (length (s .bytes)) (s .dir) count (s .cur) ≡ opening (opened.Fresh st) cur
-    → (o : Outcome) → o ≡ blockOf s m count → (z : Lent) (calls : List Call) (t : Seen (s .rules) (s .bytes) (s .dir) (left o) calls z)
-    → EachSeen (s .rules) (s .bytes) (s .dir) (lent cur (keeping st (m .text) (m .names) (m .rows))) (left o) z calls t
+pub block-demand-3-seen : BlockDemand3Seen
 block-demand-3-seen s m count st cur e o f z calls t =
-    let l : Lent = lent cur (keeping st (m .text) (m .names) (m .rows)) in
+    let l : Lent = freshOver m st cur in
     each-seen (s .rules) (s .bytes) (s .dir) l (left o) z calls t
     (λ x. subst (λ (y : Outcome). Demand3 (s .rules) (s .bytes) (s .dir) l (run (s .rules) (s .bytes) (s .dir) (left y) x)) (sym f) (block-demand-3 s m count st cur e x))

@@ -11,15 +11,14 @@ use lib.ListN.{length, replicate}
 use Rattle.base.proofs.Choice.{never, pick-true, pick-false, by-test}
 use Rattle.block.specs.declared.State.{State}
 use Rattle.block.specs.declared.Refusal.{Refusal}
-use Rattle.block.specs.declared.Opened.the-variants as opened
-use Rattle.block.specs.Block.{opening, openOf, state}
+use Rattle.block.specs.Block.{state}
 use Rattle.block.specs.declared.Refusal.the-variants as refusal
 use Rattle.block.proofs.Laws.{open-sound, open-inside, accepted}
 use Rattle.words.specs.Words.{telling, Ending, done, unread, stopped, Telling}
-use Rattle.demands.specs.ByWords.{endsWith, answerAt, ByWords, Ends, over, at, SameName}
+use Rattle.demands.specs.ByWords.{endsWith, answerAt, ByWords, AlwaysTold, Ends, over, at, RefusedTold, SameNames}
 use Rattle.demands.proofs.Lemmas.Told.{fresh-reached, keeps-reached, by-words}
 use Rattle.tables.specs.declared.Entry.{Entry}
-use Rattle.tables.specs.Tables.{Kept, keeping, entryAt}
+use Rattle.tables.specs.Tables.{Kept, entryAt}
 use Rattle.kept.specs.Inside.{TextCounted}
 use Rattle.kept.proofs.Laws.{counts-text, counts-of, earlier-fits-of}
 use Rattle.kept.proofs.Later.{Later, later-same, later-then, entry-later}
@@ -33,8 +32,8 @@ use Rattle.claims.specs.declared.Verdict.the-variants.{Refused}
 use Rattle.claims.specs.Claims.{nameText}
 use Rattle.claims.specs.Causes.{Answerable}
 use Rattle.claims.proofs.Laws.{confirmed-of, denied-of, eleven-of, confirmed, thirteen, thirteen-at}
-use Rattle.demands.specs.Runs.{Lent, lent, read, left, Reads, Keeps, none, next, Fresh, Call, reading, claiming, after, run, claimed, nameAt}
-use Rattle.demands.specs.Right.{Demand3, Right, NameRight, Judged, Sane, left-over, by-rules}
+use Rattle.demands.specs.Runs.{Lent, lent, freshOver, read, left, Reads, Keeps, none, next, Fresh, Call, reading, claiming, after, run, claimed, nameAt}
+use Rattle.demands.specs.Right.{Demand3, Right, NameRight, Judged, Sane, left-over, by-rules, AlwaysRight, AlwaysJudged, OnlyKept, PlainReads, FirstNames, AlwaysSane, AlwaysDemand3, BlockDemand3, BlockRight}
 use Rattle.demands.specs.Refusals.{Why, unsound, uncounted, outside, unread, unnamed, ReadCase, refuses, ends, keeps}
 use Rattle.demands.specs.Untouched.{Whole}
 use Rattle.demands.proofs.Refusals.{read-why, by-reason}
@@ -43,7 +42,7 @@ use Rattle.demands.proofs.Lemmas.Keeping.{Sure, sure-right, fresh-sure,
 use Rattle.demands.proofs.Lemmas.Later.{later-adds, text-later}
 use Rattle.demands.proofs.Adds.{read-adds}
 use Rattle.demands.proofs.Untouched.{block-reads}
-use Rattle.types.specs.Types.{Rules}
+use Rattle.numbering.specs.Types.{Rules}
 
 run-sure : (rules : Rules) (bytes dir : List ℕ) (cs : List Call) (l : Lent) → Sure bytes dir l → Sure bytes dir (run rules bytes dir l cs)
 unfolding run
@@ -61,8 +60,7 @@ pub read-or-not : (rules : Rules) {P : Type 0} (bytes dir : List ℕ) (l : Lent)
 unfolding read
 read-or-not rules bytes dir l f g = by-way (source rules bytes dir (l .cur)) (l .kept) (readOf (source rules bytes dir (l .cur)) (l .kept)) (read-case _ _) f g
 
--- the calls that kept nothing leave no mark: the memory is that of as many reads in a row as kept a name
-pub only-kept : (rules : Rules) (bytes dir : List ℕ) (calls : List Call) (l : Lent) → Reads rules bytes dir l (run rules bytes dir l calls)
+pub only-kept : OnlyKept
 unfolding run after
 only-kept rules bytes dir [] l = record { names = 0; reads = none l }
 only-kept rules bytes dir (reading ∷ cs) l =
@@ -72,15 +70,12 @@ only-kept rules bytes dir (reading ∷ cs) l =
     (λ e. subst (λ (z : Lent). Reads rules bytes dir z (run rules bytes dir (left (read rules bytes dir l)) cs)) e h)
 only-kept rules bytes dir (claiming n b ∷ cs) l = only-kept rules bytes dir cs l
 
--- what is kept at any time is what the words say of the block
-pub always-told : (rules : Rules) (bytes dir : List ℕ) (count : ℕ) (l : Lent) → Fresh bytes dir count l → (calls : List Call) → ByWords rules bytes dir (telling rules bytes dir count) (run rules bytes dir l calls)
+pub always-told : AlwaysTold
 always-told rules bytes dir count l f calls =
     by-words rules bytes dir (telling rules bytes dir count) (run rules bytes dir l calls)
     (keeps-reached rules bytes dir (telling rules bytes dir count) _ l (run rules bytes dir l calls) (only-kept rules bytes dir calls l .reads) (fresh-reached rules bytes dir count l f (fresh-sure bytes dir count l f)))
 
--- at all times: the counts and cursors are sound, every kept name's tokens, printed end to end, are that name, each row is the one
--- that the words say, and each reference, a distance of 1 or more (C-11), points to a lower number
-pub always-right : (rules : Rules) (bytes dir : List ℕ) (count : ℕ) (l : Lent) → Fresh bytes dir count l → (calls : List Call) → Right rules bytes dir (telling rules bytes dir count) (run rules bytes dir l calls)
+pub always-right : AlwaysRight
 always-right rules bytes dir count l f calls =
     sure-right rules bytes dir (telling rules bytes dir count) (run rules bytes dir l calls) (run-sure rules bytes dir calls l (fresh-sure bytes dir count l f)) (always-told rules bytes dir count l f calls)
 
@@ -103,13 +98,10 @@ right-judged rules bytes dir b l r number claim =
       );
     }
 
--- every claim at any time
-pub always-judged : (rules : Rules) (bytes dir : List ℕ) (count : ℕ) (l : Lent) → Fresh bytes dir count l → (calls : List Call)
-    → (number : ℕ) (claim : List ℕ) → Judged (run rules bytes dir l calls) number claim
+pub always-judged : AlwaysJudged
 always-judged rules bytes dir count l f calls number claim = right-judged rules bytes dir (telling rules bytes dir count) (run rules bytes dir l calls) (always-right rules bytes dir count l f calls) number claim
 
--- the same reads, made one after another and nothing between
-pub plain-reads : (rules : Rules) (bytes dir : List ℕ) (n : ℕ) (l z : Lent) → Keeps rules bytes dir n l z → run rules bytes dir l (replicate n reading) ≡ z
+pub plain-reads : PlainReads
 unfolding run after
 plain-reads rules bytes dir n l z (none x) = refl
 plain-reads rules bytes dir n l z (next k i x y e h) = plain-reads rules bytes dir k _ z h
@@ -148,16 +140,10 @@ module _ (rules : Rules) (bytes dir : List ℕ) where
       sym (ap (nameText (z .kept .text)) (entry-later (l .kept) (z .kept) t i h)
       ∙ text-later (l .kept) (z .kept) t e (n .text))
 
--- what is kept is what reading the block from its start gives, whatever was refused in between:
--- after any calls the names are the first of those that a whole-block read keeps
-pub first-names : (s : Source) (m : Kept) (count : ℕ) (st : State) (cur : List ℕ)
-    → openOf (length (s .bytes)) (s .dir) count (s .cur) ≡ opening (opened.Fresh st) cur
-    → (calls : List Call) (i : ℕ) → i < run (s .rules) (s .bytes) (s .dir) (lent cur (keeping st (m .text) (m .names) (m .rows))) calls .kept .state .names
-    → (i < blockOf s m count .kept .state .names)
-    × (nameAt (run (s .rules) (s .bytes) (s .dir) (lent cur (keeping st (m .text) (m .names) (m .rows))) calls) i ≡ nameAt (left (blockOf s m count)) i)
+pub first-names : FirstNames
 unfolding left
 first-names s m count st cur e calls i h =
-    let l : Lent = lent cur (keeping st (m .text) (m .names) (m .rows)) in
+    let l : Lent = freshOver m st cur in
     let z : Lent = run (s .rules) (s .bytes) (s .dir) l calls in
     let r : Right (s .rules) (s .bytes) (s .dir) (telling (s .rules) (s .bytes) (s .dir) count) z = always-right (s .rules) (s .bytes) (s .dir) count l (record { old = s .cur; state = st; opens = e; begins = refl }) calls in
     let b : Whole (s .rules) (s .bytes) (s .dir) l (blockOf s m count) = block-reads s m count st cur e in
@@ -190,9 +176,7 @@ refusal-right rules bytes dir t l r q (unnamed k a b c) =
 fresh-count : (bytes dir : List ℕ) (count : ℕ) (l : Lent) → Fresh bytes dir count l → l .kept .state .count ≡ count
 fresh-count bytes dir count l f = ap (λ (x : State). x .count) (f .begins ∙ accepted (length bytes) dir count (f .old) (f .opens) .state)
 
--- two fresh starts on one block keep the same names, whatever each was lent and whatever was called
-pub same-names : (rules : Rules) (bytes dir : List ℕ) (count : ℕ) (l w : Lent) → Fresh bytes dir count l → Fresh bytes dir count w → (calls others : List Call) (i : ℕ)
-    → i < run rules bytes dir l calls .kept .state .names → i < run rules bytes dir w others .kept .state .names → SameName (run rules bytes dir l calls) (run rules bytes dir w others) i
+pub same-names : SameNames
 unfolding nameAt nameText
 same-names rules bytes dir count l w f g calls others i h k =
     let a = always-told rules bytes dir count l f calls .each i h in
@@ -227,21 +211,16 @@ ends-told rules bytes dir b z t q h e =
     let x : q ≡ refusal.At 9 k = cc in absurd (h k x))
     (t .answers)
 
--- after any calls from a fresh start, a read that is refused otherwise than with 9 is refused as the words say that the block ends
-pub refused-told : (rules : Rules) (bytes dir : List ℕ) (count : ℕ) (l : Lent) → Fresh bytes dir count l → (calls : List Call) (q : Refusal) → ((n : ℕ) → q ≡ refusal.At 9 n → ⊥)
-    → read rules bytes dir (run rules bytes dir l calls) .answer ≡ answer.Refused q → Ends (telling rules bytes dir count) (run rules bytes dir l calls) q
+pub refused-told : RefusedTold
 refused-told rules bytes dir count l f calls =
     ends-told rules bytes dir (telling rules bytes dir count) (run rules bytes dir l calls) (always-told rules bytes dir count l f calls)
 
--- from a fresh start no read meets 1 or 13
-pub always-sane : (rules : Rules) (bytes dir : List ℕ) (count : ℕ) (l : Lent) → Fresh bytes dir count l → (calls : List Call) (q : Refusal)
-    → read rules bytes dir (run rules bytes dir l calls) .answer ≡ answer.Refused q → Sane (run rules bytes dir l calls) q
+pub always-sane : AlwaysSane
 unfolding read
 always-sane rules bytes dir count l f calls q e =
     refusal-right rules bytes dir (telling rules bytes dir count) (run rules bytes dir l calls) (always-right rules bytes dir count l f calls) q (read-why _ _ q e)
 
--- demand 3: start fresh on one block and make any sequence of reads and claims, refused ones too
-pub demand-3 : (rules : Rules) (bytes dir : List ℕ) (count : ℕ) (l : Lent) → Fresh bytes dir count l → (calls : List Call) → Demand3 rules bytes dir l (run rules bytes dir l calls)
+pub demand-3 : AlwaysDemand3
 demand-3 rules bytes dir count l f calls = record {
   right = subst (λ (n : ℕ). Right rules bytes dir (telling rules bytes dir n) (run rules bytes dir l calls)) (sym (fresh-count bytes dir count l f)) (always-right rules bytes dir count l f calls);
   claims = always-judged rules bytes dir count l f calls;
@@ -255,14 +234,9 @@ unfolding run
 run-then rules bytes dir [] calls l = refl
 run-then rules bytes dir (c ∷ cs) calls l = run-then rules bytes dir cs calls (after rules bytes dir l c)
 
--- demand 3 from a whole-block read on: once its opening has accepted the block, what it leaves is what reads from that fresh start leave,
--- and so is what any sequence of reads and claims leaves that follows it
-pub block-demand-3 : (s : Source) (m : Kept) (count : ℕ) (st : State) (cur : List ℕ)
-    → openOf (length (s .bytes)) (s .dir) count (s .cur) ≡ opening (opened.Fresh st) cur
-    → (calls : List Call)
-    → Demand3 (s .rules) (s .bytes) (s .dir) (lent cur (keeping st (m .text) (m .names) (m .rows))) (run (s .rules) (s .bytes) (s .dir) (left (blockOf s m count)) calls)
+pub block-demand-3 : BlockDemand3
 block-demand-3 s m count st cur e calls =
-    let l : Lent = lent cur (keeping st (m .text) (m .names) (m .rows)) in
+    let l : Lent = freshOver m st cur in
     let b : Whole (s .rules) (s .bytes) (s .dir) l (blockOf s m count) = block-reads s m count st cur e in
     let same : run (s .rules) (s .bytes) (s .dir) l (replicate (b .names) reading) ≡ left (blockOf s m count) =
     plain-reads (s .rules) (s .bytes) (s .dir) (b .names) l (b .last) (b .before) ∙ sym (b .stays) in
@@ -270,8 +244,6 @@ block-demand-3 s m count st cur e calls =
     (run-then (s .rules) (s .bytes) (s .dir) (replicate (b .names) reading) calls l ∙ ap (λ (z : Lent). run (s .rules) (s .bytes) (s .dir) z calls) same)
     (demand-3 (s .rules) (s .bytes) (s .dir) count l (record { old = s .cur; state = st; opens = e; begins = refl }) (replicate (b .names) reading ++ calls))
 
--- so what it leaves is right
-pub block-right : (s : Source) (m : Kept) (count : ℕ) (st : State) (cur : List ℕ)
-    → openOf (length (s .bytes)) (s .dir) count (s .cur) ≡ opening (opened.Fresh st) cur → Right (s .rules) (s .bytes) (s .dir) (telling (s .rules) (s .bytes) (s .dir) (st .count)) (left (blockOf s m count))
+pub block-right : BlockRight
 unfolding run
 block-right s m count st cur e = block-demand-3 s m count st cur e [] .right

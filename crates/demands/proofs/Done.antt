@@ -1,25 +1,24 @@
 -- "done", and 10: a read with k equal to the count.
-use Prim.Native.Nat.{ℕ, _<_}
+use Prim.Native.Nat.{ℕ}
 use mathlib.Core.Path.{_≡_, refl, sym, _∙_}
 use mathlib.Core.Bool.{true}
 use native.Mathlib.Omega.{arith}
 use borrow.Author.Tests.{eq-eqb}
 use lib.ListN.{length}
 use Rattle.base.proofs.Choice.{pick-true, pick-false, by-test}
-use Rattle.block.specs.declared.Refusal.the-variants as refusal
-use Rattle.block.specs.Block.{sound, allAtEnd, startOf, endOf, cursorOf, starts, state}
+use Rattle.block.specs.Block.{sound, allAtEnd, starts, state}
 use Rattle.block.proofs.Laws.{at-end-each, each-at-end, opens-fresh, starts-cursor}
 use Rattle.tables.specs.Tables.{Kept}
 use Rattle.sources.specs.Source.{Source, source}
 use Rattle.entries.specs.declared.Answer.{Answer}
 use Rattle.entries.specs.declared.Answer.the-variants as answer
-use Rattle.outcomes.specs.Outcomes.{Outcome, outcome, plain}
+use Rattle.outcomes.specs.Outcomes.{Outcome, plain}
 use Rattle.outcomes.specs.Keeping.{kept}
 use Rattle.inner.specs.Next.{nextOf}
 use Rattle.reads.specs.Reads.{readOf, goOn, readsFrom}
 use Rattle.reading.specs.Blocks.{openedOf, blockOf}
 use Rattle.demands.specs.Refusals.{Ready, ReadCase, refuses, ends, keeps}
-use Rattle.demands.specs.Done.{AtEnd, no-names}
+use Rattle.demands.specs.Done.{AtEnd, DoneMeans, DoneWhen, TenWhen, no-names, EmptyBlock, UnreadBlock}
 use Rattle.demands.proofs.Lemmas.Ways.{ready-reads, read-case, fresh-ready}
 
 done-way : (s : Source) (m : Kept) (o : Outcome) → ReadCase s m o → o .answer ≡ answer.Done → (m .state .names ≡ m .state .count) × AtEnd (s .dir) (s .cur)
@@ -28,18 +27,14 @@ done-way s m o (refuses r y) e = let z : _≡_ {A = ℕ} 0 1 = cc in absurd (ome
 done-way s m o (ends r k a) e = (k, at-end-each (s .dir) (s .cur) a)
 done-way s m o (keeps x first rows d r k g f) e = let z : _≡_ {A = ℕ} 0 1 = cc in absurd (omega arith)
 
--- "done" means that all names are read and every cursor is at its end
-pub done-means : (s : Source) (m : Kept) → readOf s m .answer ≡ answer.Done → (m .state .names ≡ m .state .count) × AtEnd (s .dir) (s .cur)
+pub done-means : DoneMeans
 done-means s m e = done-way s m (readOf s m) (read-case s m) e
 
--- all names read and every cursor at its end: "done"
-pub done-when : (s : Source) (m : Kept) → Ready s m → m .state .names ≡ m .state .count → AtEnd (s .dir) (s .cur) → readOf s m ≡ outcome answer.Done (s .cur) m
+pub done-when : DoneWhen
 unfolding nextOf
 done-when s m r k a = ready-reads s m r ∙ pick-true _ _ (eq-eqb _ _ k) ∙ pick-true _ _ (each-at-end (s .dir) (s .cur) a)
 
--- all names read while a cursor is short of its end: 10
-pub ten-when : (s : Source) (m : Kept) → Ready s m → m .state .names ≡ m .state .count
-    → (j : ℕ) → j < 1290 → (cursorOf (s .cur) j ≡ endOf (s .dir) j → ⊥) → readOf s m ≡ outcome (answer.Refused (refusal.Plain 10)) (s .cur) m
+pub ten-when : TenWhen
 unfolding nextOf plain
 ten-when s m r k j h n =
     ready-reads s m r ∙ pick-true _ _ (eq-eqb _ _ k)
@@ -60,11 +55,8 @@ module _ (s : Source) (m : Kept) (sounds : sound (length (s .bytes)) (s .dir) (s
   ready : Ready (source (s .rules) (s .bytes) (s .dir) (starts (s .dir))) (no-names m)
   ready = fresh-ready (s .rules) (s .bytes) (s .dir) 0 (s .cur) (m .text) (m .names) (m .rows) sounds (omega arith)
 
-  -- reading count 0 with empty spans is "done"
-  pub empty-block : ((j : ℕ) → j < 1290 → startOf (s .dir) j ≡ endOf (s .dir) j) → blockOf s m 0 ≡ outcome answer.Done (starts (s .dir)) (no-names m)
-  empty-block e = one-read ∙ done-when _ _ ready refl (λ j h. starts-cursor (s .dir) j h ∙ e j h)
+pub empty-block : EmptyBlock
+empty-block s m sounds e = one-read s m sounds ∙ done-when _ _ (ready s m sounds) refl (λ j h. starts-cursor (s .dir) j h ∙ e j h)
 
-  -- and with a span that isn't empty it is 10
-  pub unread-block : (j : ℕ) → j < 1290 → (startOf (s .dir) j ≡ endOf (s .dir) j → ⊥)
-      → blockOf s m 0 ≡ outcome (answer.Refused (refusal.Plain 10)) (starts (s .dir)) (no-names m)
-  unread-block j h n = one-read ∙ ten-when _ _ ready refl j h (λ e. n (sym (starts-cursor (s .dir) j h) ∙ e))
+pub unread-block : UnreadBlock
+unread-block s m sounds j h n = one-read s m sounds ∙ ten-when _ _ (ready s m sounds) refl j h (λ e. n (sym (starts-cursor (s .dir) j h) ∙ e))

@@ -15,14 +15,14 @@ use Rattle.base.proofs.Choice.{pick-true, pick-false, pick-holds, both-true, bo
 use Rattle.base.proofs.Numbers.{lt-or-ge}
 use Rattle.block.specs.declared.Refusal.{Refusal}
 use Rattle.block.specs.declared.Refusal.the-variants as refusal
-use Rattle.block.specs.Block.{Opening, openOf, sound}
+use Rattle.block.specs.Block.{Opening, sound}
 use Rattle.block.proofs.Laws.{opens-unsound, opens-many, opens-fresh}
 use Rattle.block.specs.Streams.{dupStream, diffStream}
 use Rattle.tables.specs.Tables.{Kept}
 use Rattle.kept.specs.Judgement.{earlierFits}
 use Rattle.kept.proofs.Laws.{earlier-fits-of}
-use Rattle.types.specs.Types.{Rules}
-use Rattle.types.proofs.Laws.{dup-not-diff}
+use Rattle.numbering.specs.Types.{Rules}
+use Rattle.numbering.proofs.Laws.{dup-not-diff}
 use Rattle.sources.specs.Source.{Source, Earlier}
 use Rattle.names.specs.Names.{Draft, refused}
 use Rattle.entries.specs.declared.Answer.the-variants as answer
@@ -41,14 +41,14 @@ use Rattle.inputs.specs.declared.Judged.{Judged}
 use Rattle.inputs.specs.declared.Judged.the-variants.{Fine, Bad}
 use Rattle.inputs.specs.Inputs.{namesOf, ended, goodName, judgedFrom}
 use Rattle.nameputs.specs.NamePuts.{putsOf}
-use Rattle.writing.specs.Writes.{Writing, countable, laidOf, judgedOf, writeOf}
-use Rattle.demands.specs.Refusals.{OpenCase, opens-1, opens-12, opens, Countable, FirstBad, AllGood, WriteCase, writes-1, writes-12, writes-8, writes-9, writes, Ready, is-dup, is-diff, Heads, Back, Rule2, dup-back, diff-none, diff-back, HeadStop, no-type, no-head, no-distance, off-rule, Leans, on-none, on-earlier, Origin, copied, walked, Reason, by-head, by-memory, by-token, by-room, Why, unsound, uncounted, outside, unread, unnamed, ReadCase, refuses, ends, keeps, ByRule, dupIn, diffIn}
-use Rattle.demands.specs.Stops.{Reached, Stop}
+use Rattle.writing.specs.Writes.{countable, laidOf, judgedOf, writeOf}
+use Rattle.demands.specs.Refusals.{OpenCase, opens-1, opens-12, opens, OpenHasCase, CaseOpens, Countable, FirstBad, AllGood, WriteCase, writes-1, writes-12, writes-8, writes-9, writes, WriteHasCase, CaseWrites, Ready, is-dup, is-diff, Heads, Back, Rule2, dup-back, diff-none, diff-back, HeadStop, no-type, no-head, no-distance, off-rule, Leans, on-none, on-earlier, Origin, copied, walked, Reason, by-head, by-memory, by-token, by-room, Why, unsound, uncounted, outside, unread, unnamed, ReadCase, refuses, ends, keeps, CaseReads, CarriesNumber, ByRule, dupIn, diffIn}
+use Rattle.demands.specs.Stops.{OneStop}
 use Rattle.demands.proofs.Lemmas.Stops.{stops-name, stop-number}
 use Rattle.demands.proofs.Lemmas.Ways.{back-of, of-back, rule-diff, diff-rule, ready-reads, read-case}
 
 -- opening
-pub open-case : (len : ℕ) (dir : List ℕ) (count : ℕ) (cur : List ℕ) → OpenCase len dir count cur (openOf len dir count cur)
+pub open-case : OpenHasCase
 open-case len dir count cur =
     let P : Opening → Type 0 = OpenCase len dir count cur in
     by-test (sound len dir cur)
@@ -58,7 +58,7 @@ open-case len dir count cur =
     (lt-or-ge 65536 count))
     (λ a. subst P (opens-unsound len dir count cur a) (opens-1 a))
 
-pub case-opens : (len : ℕ) (dir : List ℕ) (count : ℕ) (cur : List ℕ) (o : Opening) → OpenCase len dir count cur o → openOf len dir count cur ≡ o
+pub case-opens : CaseOpens
 case-opens len dir count cur o (opens-1 a) = sym (opens-unsound len dir count cur a)
 case-opens len dir count cur o (opens-12 a h) = sym (opens-many len dir count cur a h)
 case-opens len dir count cur o (opens a h) = sym (opens-fresh len dir count cur a h)
@@ -112,30 +112,30 @@ module _ (rules : Rules) (input dir bytes : List ℕ) where
       pick-holds (WriteCase rules input dir bytes) (leb (totalOf (putsOf rules (namesOf input))) (length bytes)) _ _ (λ e. writes a c h (leb-true _ _ e)) (λ e. writes-9 a c h (leb-false _ _ e))
   judged-case a c j (one-bad n i b e) = writes-8 i a c (subst (FirstBad (namesOf input)) (let z : n ≡ i = omega arith in z) b)
 
-  pub write-case : WriteCase rules input dir bytes (writeOf rules input dir bytes)
-  unfolding writeOf
-  write-case =
-      pick-holds (WriteCase rules input dir bytes) (eqb (length dir) 2580) _ _
-      (λ a. pick-holds (WriteCase rules input dir bytes) (countable input) _ _
-      (λ b. judged-case (eqb-true _ _ a) (counted input b) _ (names-case (namesOf input) 0))
-      (λ b. writes-12 (eqb-true _ _ a) (λ c. never (sym b ∙ counts-of input c))))
-      (λ a. writes-1 (eqb-false _ _ a))
-
   judges : length dir ≡ 2580 → Countable input → (j : Judged) → NamesCase 0 (namesOf input) j → writeOf rules input dir bytes ≡ judgedOf rules j (namesOf input) dir bytes
   unfolding writeOf
   judges a c j h =
       pick-true _ _ (eq-eqb _ _ a) ∙ pick-true _ _ (counts-of input c) ∙ ap (λ (x : Judged). judgedOf rules x (namesOf input) dir bytes) (case-names (namesOf input) 0 j h)
 
-  pub case-writes : (w : Writing) → WriteCase rules input dir bytes w → writeOf rules input dir bytes ≡ w
-  unfolding writeOf judgedOf laidOf
-  case-writes w (writes-1 a) = pick-false _ _ (ne-eqb _ _ a)
-  case-writes w (writes-12 a n) = pick-true _ _ (eq-eqb _ _ a) ∙ pick-false _ _ (fails (λ t. n (counted input t)))
-  case-writes w (writes-8 n a c b) = judges a c (Bad n) (one-bad n n b (omega arith))
-  case-writes w (writes-9 a c h l) = judges a c Fine (all-fine h) ∙ pick-false _ _ (lt-leb _ _ l)
-  case-writes w (writes a c h l) = judges a c Fine (all-fine h) ∙ pick-true _ _ (le-leb _ _ l)
+pub write-case : WriteHasCase
+unfolding writeOf
+write-case rules input dir bytes =
+    pick-holds (WriteCase rules input dir bytes) (eqb (length dir) 2580) _ _
+    (λ a. pick-holds (WriteCase rules input dir bytes) (countable input) _ _
+    (λ b. judged-case rules input dir bytes (eqb-true _ _ a) (counted input b) _ (names-case (namesOf input) 0))
+    (λ b. writes-12 (eqb-true _ _ a) (λ c. never (sym b ∙ counts-of input c))))
+    (λ a. writes-1 (eqb-false _ _ a))
 
--- reading inside a name: no two causes with different numbers hold together, whatever their positions
-pub one-stop : (s : Source) (e : Earlier) (p a r q b t : ℕ) → Reached s e p a → Stop s e p a r → Reached s e q b → Stop s e q b t → r ≡ t
+pub case-writes : CaseWrites
+unfolding writeOf judgedOf laidOf
+case-writes rules input dir bytes w (writes-1 a) = pick-false _ _ (ne-eqb _ _ a)
+case-writes rules input dir bytes w (writes-12 a n) = pick-true _ _ (eq-eqb _ _ a) ∙ pick-false _ _ (fails (λ t. n (counted input t)))
+case-writes rules input dir bytes w (writes-8 n a c b) = judges rules input dir bytes a c (Bad n) (one-bad n n b (omega arith))
+case-writes rules input dir bytes w (writes-9 a c h l) = judges rules input dir bytes a c Fine (all-fine h) ∙ pick-false _ _ (lt-leb _ _ l)
+case-writes rules input dir bytes w (writes a c h l) = judges rules input dir bytes a c Fine (all-fine h) ∙ pick-true _ _ (le-leb _ _ l)
+
+-- reading inside a name
+pub one-stop : OneStop
 one-stop s e p a r q b t h c i d =
     let u : refused r ≡ refused t = sym (stops-name s e 0 [] p a r h c) ∙ stops-name s e 0 [] q b t i d in
     let z : r ≡ t = cc in
@@ -208,11 +208,11 @@ module _ (s : Source) (m : Kept) where
   why-reads r (unread a b c) = ready-reads s m a ∙ pick-true _ _ (eq-eqb _ _ b) ∙ pick-false _ _ c
   why-reads r (unnamed n a b c) = name-reads a b ∙ reason-reads n c
 
-  pub case-reads : (o : Outcome) → ReadCase s m o → readOf s m ≡ o
-  unfolding nextOf keepOf
-  case-reads o (refuses r y) = why-reads r y
-  case-reads o (ends a b c) = ready-reads s m a ∙ pick-true _ _ (eq-eqb _ _ b) ∙ pick-true _ _ c
-  case-reads o (keeps x first rows d a b g f) = name-reads a b ∙ origin-reads x first rows d g ∙ pick-true _ _ f
+pub case-reads : CaseReads
+unfolding nextOf keepOf
+case-reads s m o (refuses r y) = why-reads s m r y
+case-reads s m o (ends a b c) = ready-reads s m a ∙ pick-true _ _ (eq-eqb _ _ b) ∙ pick-true _ _ c
+case-reads s m o (keeps x first rows d a b g f) = name-reads s m a b ∙ origin-reads s m x first rows d g ∙ pick-true _ _ f
 
 why-way : (s : Source) (m : Kept) (r : Refusal) (o : Outcome) → ReadCase s m o → o .answer ≡ answer.Refused r → Why s m r
 unfolding kept
@@ -235,8 +235,7 @@ why-named s m r n q (unnamed k a b c) e = let z : k ≡ r = cc in (cc, subst (Re
 pub read-named : (s : Source) (m : Kept) (r n : ℕ) → readOf s m .answer ≡ answer.Refused (refusal.At r n) → (n ≡ m .state .names) × Reason s m r
 read-named s m r n e = why-named s m r n (refusal.At r n) (read-why s m (refusal.At r n) e) refl
 
--- the number that goes with a refusal is that of the name being read
-pub carries-number : (s : Source) (m : Kept) (r n : ℕ) → readOf s m .answer ≡ answer.Refused (refusal.At r n) → n ≡ m .state .names
+pub carries-number : CarriesNumber
 carries-number s m r n e = read-named s m r n e .0
 
 -- the number of a refusal of the name being read: 2 to 9, or 13 for the earlier name

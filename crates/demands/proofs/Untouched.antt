@@ -11,7 +11,7 @@ use Rattle.base.proofs.Choice.{pick-holds}
 use Rattle.block.specs.declared.Refusal.{Refusal}
 use Rattle.block.specs.declared.Opened.the-variants as opened
 use Rattle.block.specs.declared.State.{State}
-use Rattle.block.specs.Block.{Opening, opening, openOf, sound, state}
+use Rattle.block.specs.Block.{Opening, openOf, sound, state}
 use Rattle.block.proofs.Laws.{Accepted, accepted}
 use Rattle.tables.specs.Tables.{Kept, keeping}
 use Rattle.sources.specs.Source.{Source, source}
@@ -20,11 +20,11 @@ use Rattle.outcomes.specs.Outcomes.{Outcome, outcome}
 use Rattle.reads.specs.Reads.{readOf, goOn, readsFrom}
 use Rattle.outcomes.specs.Keeping.{kept}
 use Rattle.reading.specs.Blocks.{openedOf, blockOf}
-use Rattle.demands.specs.Runs.{Lent, lent, read, left, none, next}
-use Rattle.demands.specs.Untouched.{Untouched, Whole}
+use Rattle.demands.specs.Runs.{Lent, read, left, none, next}
+use Rattle.demands.specs.Untouched.{Untouched, Whole, OpenRefused, ReadRefused, ReadDone, BlockRefused, BlockReads}
 use Rattle.demands.specs.Refusals.{ReadCase, refuses, ends, keeps}
 use Rattle.demands.proofs.Lemmas.Ways.{read-case}
-use Rattle.types.specs.Types.{Rules}
+use Rattle.numbering.specs.Types.{Rules}
 
 refused-way : (s : Source) (m : Kept) (r : Refusal) (o : Outcome) → ReadCase s m o → o .answer ≡ answer.Refused r → Untouched s m o
 unfolding kept
@@ -38,17 +38,13 @@ done-way s m o (refuses q y) e = record { cursors = refl; memory = refl }
 done-way s m o (ends a b c) e = record { cursors = refl; memory = refl }
 done-way s m o (keeps x first rows d a b c f) e = let z : _≡_ {A = ℕ} 0 1 = cc in absurd (omega arith)
 
--- a read that is refused leaves everything as it was
-pub read-refused : (s : Source) (m : Kept) (r : Refusal) → readOf s m .answer ≡ answer.Refused r → Untouched s m (readOf s m)
+pub read-refused : ReadRefused
 read-refused s m r e = refused-way s m r (readOf s m) (read-case s m) e
 
--- and so does one that finds the block at its end
-pub read-done : (s : Source) (m : Kept) → readOf s m .answer ≡ answer.Done → Untouched s m (readOf s m)
+pub read-done : ReadDone
 read-done s m e = done-way s m (readOf s m) (read-case s m) e
 
--- opening that is refused leaves the cursors as they were; it is handed no buffer
-pub open-refused : (n : ℕ) (dir : List ℕ) (count : ℕ) (cur : List ℕ) (r : Refusal)
-    → openOf n dir count cur .answer ≡ opened.Refused r → openOf n dir count cur .cursors ≡ cur
+pub open-refused : OpenRefused
 unfolding openOf
 open-refused n dir count cur r =
     pick-holds (λ (o : Opening). o .answer ≡ opened.Refused r → o .cursors ≡ cur) (not (sound n dir cur)) _ _ (λ a e. refl)
@@ -88,16 +84,11 @@ module _ (rules : Rules) (bytes dir : List ℕ) where
   all-reads zero o h k = absurd (omega arith)
   all-reads (suc f) o h k = turn f (readsFrom rules bytes dir f) (all-reads f) (left o) h k (read rules bytes dir (left o)) refl (read-case _ _)
 
--- a whole-block read whose opening is refused leaves everything as it was
-pub block-refused : (s : Source) (m : Kept) (count : ℕ) (r : Refusal) → openOf (length (s .bytes)) (s .dir) count (s .cur) .answer ≡ opened.Refused r
-    → (blockOf s m count .answer ≡ answer.Refused r) × Untouched s m (blockOf s m count)
+pub block-refused : BlockRefused
 unfolding blockOf openedOf
 block-refused s m count r e = rw e (refl, record { cursors = open-refused (length (s .bytes)) (s .dir) count (s .cur) r e; memory = refl })
 
--- one that opens leaves what opening and the reads before the last did
-pub block-reads : (s : Source) (m : Kept) (count : ℕ) (st : State) (cur : List ℕ)
-    → openOf (length (s .bytes)) (s .dir) count (s .cur) ≡ opening (opened.Fresh st) cur
-    → Whole (s .rules) (s .bytes) (s .dir) (lent cur (keeping st (m .text) (m .names) (m .rows))) (blockOf s m count)
+pub block-reads : BlockReads
 unfolding blockOf openedOf left
 block-reads s m count st cur e =
     let o : Accepted (length (s .bytes)) (s .dir) count (s .cur) st cur = accepted _ _ _ _ e in

@@ -12,8 +12,8 @@ use Rattle.inputs.specs.Inputs.{namesOf, judgedFrom}
 use Rattle.nameputs.specs.NamePuts.{putsOf}
 use Rattle.laying.specs.Puts.{totalOf}
 use Rattle.writing.specs.Writes.{countable, laidOf, judgedOf, writeOf}
-use Rattle.demands.specs.Untouched.{Unwritten}
-use Rattle.types.specs.Types.{Rules}
+use Rattle.demands.specs.Untouched.{Unwritten, WriteRefused}
+use Rattle.numbering.specs.Types.{Rules}
 
 laid : (rules : Rules) (names : List (List ℕ)) (dir bytes : List ℕ) → Unwritten dir bytes (laidOf rules names dir bytes)
 unfolding laidOf
@@ -27,7 +27,7 @@ unfolding judgedOf
 judged rules Fine names dir bytes = laid rules names dir bytes
 judged rules (Bad n) names dir bytes = λ r e. (refl, refl)
 
-pub write-refused : (rules : Rules) (input dir bytes : List ℕ) → Unwritten dir bytes (writeOf rules input dir bytes)
+pub write-refused : WriteRefused
 unfolding writeOf
 write-refused rules input dir bytes =
     pick-holds (Unwritten dir bytes) (eqb (length dir) 2580) _ _

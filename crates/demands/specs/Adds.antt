@@ -11,8 +11,10 @@ use Rattle.block.specs.Streams.{dupStream, diffStream}
 use Rattle.tables.specs.declared.Entry.{Entry}
 use Rattle.tables.specs.Tables.{Table, entrySize, Kept, entryAt, rowRoom, rowAt, unusedPart}
 use Rattle.sources.specs.Source.{Source}
+use Rattle.entries.specs.declared.Answer.the-variants as answer
 use Rattle.outcomes.specs.Outcomes.{Outcome}
 use Rattle.earlier.specs.Back.{entryBack}
+use Rattle.reads.specs.Reads.{readOf}
 use Rattle.claims.specs.Claims.{nameText}
 use Rattle.demands.specs.Takes.{takesFrom, headTakes}
 use Rattle.demands.specs.Refusals.{Back}
@@ -66,3 +68,7 @@ pub record Adds (s : Source) (m : Kept) (number : ℕ) (o : Outcome) : Type 0 wh
   pub kind : Kind s m name rows taken (entryAt (o .kept .names) number)
   pub moves : (j : ℕ) → cursorOf (o .cur) j ≡ cursorOf (s .cur) j + taken j
   pub opened : Open (s .bytes) (s .dir) (o .cur)
+
+-- a read that keeps a name adds it and alters nothing else
+abbrev pub ReadAdds : Type 0
+ReadAdds = (s : Source) (m : Kept) (i : ℕ) → readOf s m .answer ≡ answer.Kept i → Adds s m i (readOf s m)

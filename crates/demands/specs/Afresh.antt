@@ -11,9 +11,9 @@ use Rattle.spans.specs.declared.NextByte.the-variants as byte
 use Rattle.block.specs.declared.Refusal.the-variants as refusal
 use Rattle.block.specs.Streams.{typeStream, diffStream}
 use Rattle.tables.specs.Tables.{Kept, entryAt, Table}
-use Rattle.types.specs.declared.TokenType.{TokenType}
-use Rattle.types.specs.declared.TokenType.the-variants as type
-use Rattle.types.specs.Types.{typeOf}
+use Rattle.numbering.specs.declared.TokenType.{TokenType}
+use Rattle.numbering.specs.declared.TokenType.the-variants as type
+use Rattle.numbering.specs.Types.{typeOf}
 use Rattle.sources.specs.Source.{Source, earlier, byteIn}
 use Rattle.values.specs.declared.Step.the-variants as step
 use Rattle.steps.specs.Steps.{stepAt}

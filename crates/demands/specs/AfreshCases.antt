@@ -3,8 +3,8 @@ use Prim.Native.Nat.{ℕ}
 use mathlib.Core.List.{List, [], _∷_, _++_}
 use Rattle.spans.specs.Spans.{fourBytes}
 use Rattle.block.specs.Streams.{typeStream, charStream, dupStream, diffStream, digitsStream, ddeltaStream}
-use Rattle.types.specs.declared.TokenType.{TokenType}
-use Rattle.types.specs.declared.TokenType.the-variants.{Char, Digits, Delta, Match, End}
+use Rattle.numbering.specs.declared.TokenType.{TokenType}
+use Rattle.numbering.specs.declared.TokenType.the-variants.{Char, Digits, Delta, Match, End}
 use Rattle.demands.specs.Cases.{dupNumber, diffNumber, Case, Buffers, Stream, stream, types, Told, readIn}
 use Rattle.demands.specs.Bench.{refusedAt, passes}
 

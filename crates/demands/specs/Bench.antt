@@ -5,8 +5,8 @@ use lib.ListN.{replicate}
 use Rattle.spans.specs.Spans.{fourBytes}
 use Rattle.block.specs.declared.Refusal.the-variants as refusal
 use Rattle.block.specs.Streams.{typeStream, stringStream, charStream, digits0Stream, dzlenStream, dupStream, diffStream, digitsStream, ddeltaStream, ddelta0Stream}
-use Rattle.types.specs.declared.TokenType.{TokenType}
-use Rattle.types.specs.declared.TokenType.the-variants.{String, Char, Digits, Digits0, Delta, Delta0, Match, End}
+use Rattle.numbering.specs.declared.TokenType.{TokenType}
+use Rattle.numbering.specs.declared.TokenType.the-variants.{String, Char, Digits, Digits0, Delta, Delta0, Match, End}
 use Rattle.entries.specs.declared.Answer.the-variants as answer
 use Rattle.writing.specs.declared.WriteAnswer.the-variants.{Written}
 use Rattle.demands.specs.Cases.{dupNumber, diffNumber, Case, Buffers, Stream, stream, types, bytesIn, Told, readIn, WrittenIn, writeIn}

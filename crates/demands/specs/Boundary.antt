@@ -1,4 +1,5 @@
--- The C boundary where its callers stand: what they see of a call's number, and calls one after another over what the one before left.
+-- The C boundary where its callers stand: what they see of a call's number, what a refused call leaves, calls one after another over what the one before left,
+-- and the demands there.
 use Prim.Native.Nat.{ℕ, suc, _^_, _≤_, _<_}
 use mathlib.Core.Path.{_≡_}
 use mathlib.Core.List.{List, [], _∷_}
@@ -11,10 +12,13 @@ use Rattle.block.specs.declared.Refusal.the-variants as refusal
 use Rattle.block.specs.declared.Opened.{Opened}
 use Rattle.block.specs.declared.Opened.the-variants as opened
 use Rattle.block.specs.Block.{openOf, state}
+use Rattle.block.specs.Streams.{diffStream}
 use Rattle.tables.specs.Tables.{keeping, Table}
 use Rattle.sources.specs.Source.{source}
 use Rattle.entries.specs.declared.Answer.{Answer}
 use Rattle.entries.specs.declared.Answer.the-variants as answer
+use Rattle.earlier.specs.Back.{none}
+use Rattle.naming.specs.Naming.{diffOf}
 use Rattle.reads.specs.Reads.{readOf}
 use Rattle.reading.specs.Blocks.{blockOf}
 use Rattle.claims.specs.declared.Verdict.{Verdict}
@@ -23,15 +27,16 @@ use Rattle.claims.specs.Claims.{claimOf}
 use Rattle.writing.specs.declared.WriteAnswer.{WriteAnswer}
 use Rattle.writing.specs.declared.WriteAnswer.the-variants as written
 use Rattle.writing.specs.Writes.{writeOf}
-use Rattle.codes.specs.Codes.{packed, noName, stateIn}
-use Rattle.opencalls.specs.Calls.{Opens, openCall}
-use Rattle.readcalls.specs.Calls.{Reads, reads, readCall, blockCall}
+use Rattle.codes.specs.Codes.{packed, noName, stateIn, stateOut}
+use Rattle.opencalls.specs.Calls.{Opens, opens, openCall}
+use Rattle.readcalls.specs.Calls.{Reads, reads, readsOf, readCall, blockCall}
 use Rattle.claimcalls.specs.Calls.{claimCall}
-use Rattle.writecalls.specs.Calls.{writeCall}
+use Rattle.writecalls.specs.Calls.{Writes, writes, writeCall}
 use Rattle.demands.specs.Runs.{Lent, lent, nameAt, Call, reading, claiming}
-use Rattle.demands.specs.Refusals.{ByRule}
+use Rattle.demands.specs.Refusals.{Ready, Heads, ByRule}
 use Rattle.demands.specs.Right.{Demand3}
-use Rattle.types.specs.Types.{Rules}
+use Rattle.demands.specs.Contracts.{OneOutcome}
+use Rattle.numbering.specs.Types.{Rules}
 
 -- a code, the low 32 bits, other than 0: the call is refused, or it is a read that finds the block at its end
 pub record Stopped (number : ℕ) : Type 0 where
@@ -41,6 +46,53 @@ pub record Stopped (number : ℕ) : Type 0 where
   pub some : 1 ≤ code
   pub low : code < 2 ^ 32
 
+-- a state of four numbers goes out as it came in: aq_read and aq_read_block write it on every path
+abbrev pub StateBack : Type 0
+StateBack = (l : List ℕ) → length l ≡ 4 → stateOut (stateIn l) ≡ l
+
+-- opening that answers another code than 0 leaves the cursors and the state
+abbrev pub OpenCallStopped : Type 0
+OpenCallStopped =
+    (bytes dir : List ℕ) (count : ℕ) (cur st : List ℕ) → Stopped (openCall bytes dir count cur st .number)
+    → openCall bytes dir count cur st ≡ opens (openCall bytes dir count cur st .number) cur st
+
+-- and it does where it is refused
+abbrev pub OpenCallStops : Type 0
+OpenCallStops =
+    (bytes dir : List ℕ) (count : ℕ) (cur st : List ℕ) (r : Refusal) → openOf (length bytes) dir count cur .answer ≡ opened.Refused r
+    → Stopped (openCall bytes dir count cur st .number)
+
+-- a read that answers another code than 0, refused or done, leaves the cursors, the text, the names, the rows and the state
+abbrev pub ReadCallStopped : Type 0
+ReadCallStopped =
+    (rules : Rules) (bytes dir cur text names : List ℕ) (rows : Table) (st : List ℕ) → length st ≡ 4 → Stopped (readCall rules bytes dir cur text names rows st .number)
+    → readCall rules bytes dir cur text names rows st ≡ reads (readCall rules bytes dir cur text names rows st .number) cur text names rows st
+
+-- and it does where it keeps no name
+abbrev pub ReadCallStops : Type 0
+ReadCallStops =
+    (rules : Rules) (bytes dir cur text names : List ℕ) (rows : Table) (st : List ℕ)
+    → ((i : ℕ) → readOf (source rules bytes dir cur) (keeping (stateIn st) text names rows) .answer ≡ answer.Kept i → ⊥)
+    → Stopped (readCall rules bytes dir cur text names rows st .number)
+
+-- writing that answers another code than 0 leaves the directory, the bytes and the totals
+abbrev pub WriteCallStopped : Type 0
+WriteCallStopped =
+    (rules : Rules) (input dir bytes totals : List ℕ) → Stopped (writeCall rules input dir bytes totals .number)
+    → writeCall rules input dir bytes totals ≡ writes (writeCall rules input dir bytes totals .number) dir bytes totals
+
+-- and it does where it is refused
+abbrev pub WriteCallStops : Type 0
+WriteCallStops =
+    (rules : Rules) (input dir bytes totals : List ℕ) (r : Refusal) → writeOf rules input dir bytes .answer ≡ written.Refused r
+    → Stopped (writeCall rules input dir bytes totals .number)
+
+-- a whole-block read whose opening answers another code than 0 answers that, and leaves everything as it was
+abbrev pub BlockCallStopped : Type 0
+BlockCallStopped =
+    (rules : Rules) (bytes dir : List ℕ) (count : ℕ) (cur text names : List ℕ) (rows : Table) (st : List ℕ) → length st ≡ 4 → Stopped (openCall bytes dir count cur st .number)
+    → blockCall rules bytes dir count cur text names rows st ≡ reads (openCall bytes dir count cur st .number) cur text names rows st
+
 -- a number tells an answer: it has one code, below 2^32, and one value, and these tell it
 pub record NumberTells {A : Type 0} (number : ℕ) (told : ℕ → ℕ → A) (a : A) : Type 0 where
   pub code : ℕ
@@ -49,6 +101,10 @@ pub record NumberTells {A : Type 0} (number : ℕ) (told : ℕ → ℕ → A) (a
   pub is : number ≡ packed code value
   pub one : (c v : ℕ) → c < 2 ^ 32 → number ≡ packed c v → (c ≡ code) × (v ≡ value)
   pub tells : a ≡ told code value
+
+-- two answers under one number are the same answer: two of reads or of whole blocks, two of claims, two of openings with one count, two of writings with the same totals
+abbrev pub SameAnswer : {A : Type 0} → (ℕ → ℕ → A) → A → A → Type 0
+SameAnswer told a b = (m n : ℕ) → NumberTells m told a → NumberTells n told b → m ≡ n → a ≡ b
 
 -- what a code and a value tell of a refusal: no name goes with it where the value says so, but for 11, which always has the number claimed
 unfoldable pub toldRefusal : ℕ → ℕ → Refusal
@@ -93,6 +149,12 @@ WritingTold = (rules : Rules) (input dir bytes totals : List ℕ)
 abbrev pub begun : Opens → List ℕ → List ℕ → Table → Reads
 begun o text names rows = reads (o .number) (o .cursors) text names rows (o .state)
 
+-- where opening answers code 0: what holds of what it leaves, with any buffers to read into, and of what a whole-block read leaves
+abbrev pub PastOpening : (Rules → List ℕ → List ℕ → Reads → Reads → Type 0) → Type 0
+PastOpening Holds =
+    (rules : Rules) (bytes dir : List ℕ) (count : ℕ) (cur text names : List ℕ) (rows : Table) (st : List ℕ) (v : ℕ) → openCall bytes dir count cur st .number ≡ packed 0 v
+    → Holds rules bytes dir (begun (openCall bytes dir count cur st) text names rows) (blockCall rules bytes dir count cur text names rows st)
+
 -- what a call left, as a read or a claim inside has it
 unfoldable pub lentFrom : Reads → Lent
 lentFrom r = lent (r .cursors) (keeping (stateIn (r .state)) (r .text) (r .names) (r .rows))
@@ -120,6 +182,10 @@ pub record WholeCall (rules : Rules) (bytes dir : List ℕ) (r o : Reads) : Type
   pub stops : Stopped (o .number)
   pub stays : o ≡ reads (o .number) (last .cursors) (last .text) (last .names) (last .rows) (last .state)
 
+-- every whole-block read past its opening is one
+abbrev pub BlockCallReads : Type 0
+BlockCallReads = PastOpening WholeCall
+
 -- the number of a read that keeps no name, k being kept: "done" with k; 10 for what is left unread; or, with the number of the name being read, 2 to 9
 pub data StopSays (k : ℕ) : ℕ → Type 0 where
   says-done : StopSays k (packed 256 k)
@@ -138,6 +204,10 @@ Faultless number = Never 1 number × (Never 12 number × Never 13 number)
 pub record BlockSays (r : Reads) : Type 0 where
   pub says : StopSays (stateIn (r .state) .names) (r .number)
   pub faultless : Faultless (r .number)
+
+-- every whole block past its opening says so: never 1, 12 or 13
+abbrev pub BlockCallSays : Type 0
+BlockCallSays = PastOpening (λ rules bytes dir r o. BlockSays o)
 
 -- a read with k names kept: code 0 with k, the number of the name that it keeps, or it stops
 pub record ReadCallSays (k number : ℕ) : Type 0 where
@@ -165,3 +235,44 @@ pub record Demand3Call (rules : Rules) (bytes dir : List ℕ) (l : Lent) (r : Re
 unfoldable pub EachCall : (rules : Rules) (bytes dir : List ℕ) → Lent → Reads → List Call → Type 0
 EachCall rules bytes dir l r [] = Demand3Call rules bytes dir l r
 EachCall rules bytes dir l r (c ∷ cs) = Demand3Call rules bytes dir l r × EachCall rules bytes dir l (callOn rules bytes dir r c) cs
+
+-- demand 3: any sequence of reads and claims, refused ones too; and from a whole-block read on
+abbrev pub CallsDemand3 : Type 0
+CallsDemand3 = PastOpening (λ rules bytes dir r o. (calls : List Call) → Demand3Call rules bytes dir (lentFrom r) (callsOn rules bytes dir r calls))
+
+abbrev pub BlockCallsDemand3 : Type 0
+BlockCallsDemand3 = PastOpening (λ rules bytes dir r o. (calls : List Call) → Demand3Call rules bytes dir (lentFrom r) (callsOn rules bytes dir o calls))
+
+-- of each of the numbers on the way
+abbrev pub CallsEach : Type 0
+CallsEach = PastOpening (λ rules bytes dir r o. (calls : List Call) → EachCall rules bytes dir (lentFrom r) r calls)
+
+abbrev pub BlockCallsEach : Type 0
+BlockCallsEach = PastOpening (λ rules bytes dir r o. (calls : List Call) → EachCall rules bytes dir (lentFrom r) o calls)
+
+-- C-11: a read of a name that starts afresh is rule 4 with no earlier name, whatever the tables hold
+abbrev pub AfreshCall : Type 0
+AfreshCall =
+    (rules : Rules) (bytes dir cur text names : List ℕ) (rows : Table) (st : List ℕ)
+    → Ready (source rules bytes dir cur) (keeping (stateIn st) text names rows) → (stateIn st .names ≡ stateIn st .count → ⊥) → Heads (source rules bytes dir cur) (rules .numbers .diff) diffStream 0
+    → readCall rules bytes dir cur text names rows st
+    ≡ readsOf (diffOf (source rules bytes dir cur) (keeping (stateIn st) text names rows) 0 (none (keeping (stateIn st) text names rows)))
+
+-- each export has one outcome only
+abbrev pub OneOpenCall : Type 0
+OneOpenCall = (bytes dir : List ℕ) (count : ℕ) (cur st : List ℕ) (x y : Opens) → OneOutcome (openCall bytes dir count cur st) x y
+
+abbrev pub OneReadCall : Type 0
+OneReadCall =
+    (rules : Rules) (bytes dir cur text names : List ℕ) (rows : Table) (st : List ℕ) (x y : Reads) → OneOutcome (readCall rules bytes dir cur text names rows st) x y
+
+abbrev pub OneBlockCall : Type 0
+OneBlockCall =
+    (rules : Rules) (bytes dir : List ℕ) (count : ℕ) (cur text names : List ℕ) (rows : Table) (st : List ℕ) (x y : Reads)
+    → OneOutcome (blockCall rules bytes dir count cur text names rows st) x y
+
+abbrev pub OneClaimCall : Type 0
+OneClaimCall = (number : ℕ) (claim text names st : List ℕ) (x y : ℕ) → OneOutcome (claimCall number claim text names st) x y
+
+abbrev pub OneWriteCall : Type 0
+OneWriteCall = (rules : Rules) (input dir bytes totals : List ℕ) (x y : Writes) → OneOutcome (writeCall rules input dir bytes totals) x y

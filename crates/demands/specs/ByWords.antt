@@ -11,10 +11,10 @@ use Rattle.block.specs.declared.Refusal.the-variants as refusal
 use Rattle.entries.specs.declared.Answer.{Answer}
 use Rattle.entries.specs.declared.Answer.the-variants as answer
 use Rattle.words.specs.Values.{Name, nobody}
-use Rattle.words.specs.Words.{Ending, done, unread, stopped, Telling}
+use Rattle.words.specs.Words.{Ending, done, unread, stopped, Telling, telling}
 use Rattle.standing.specs.Stands.{Stands}
-use Rattle.demands.specs.Runs.{Lent, read, nameAt}
-use Rattle.types.specs.Types.{Rules}
+use Rattle.demands.specs.Runs.{Lent, read, Fresh, Call, run, nameAt}
+use Rattle.numbering.specs.Types.{Rules}
 
 -- what the ending answers with k names kept
 unfoldable pub endsWith : ℕ → Ending → Answer
@@ -36,6 +36,12 @@ pub record ByWords (rules : Rules) (bytes dir : List ℕ) (b : Telling) (z : Len
   pub answers : (read rules bytes dir z .answer ≡ answerAt b (z .kept .state .names))
       ⊎ ((z .kept .state .names < length (b .names)) × (read rules bytes dir z .answer ≡ answer.Refused (refusal.At 9 (z .kept .state .names))))
 
+-- what is kept at any time is what the words say of the block
+abbrev pub AlwaysTold : Type 0
+AlwaysTold =
+    (rules : Rules) (bytes dir : List ℕ) (count : ℕ) (l : Lent) → Fresh bytes dir count l
+    → (calls : List Call) → ByWords rules bytes dir (telling rules bytes dir count) (run rules bytes dir l calls)
+
 -- a refusal r that carries name n is how the block ends: all of its names are kept, and the next is refused with r
 pub record EndsAt (b : Telling) (z : Lent) (r n : ℕ) : Type 0 where
   pub all : z .kept .state .names ≡ length (b .names)
@@ -47,9 +53,21 @@ pub data Ends (b : Telling) (z : Lent) : Refusal → Type 0 where
   over : z .kept .state .names ≡ length (b .names) → b .ending ≡ unread → Ends b z (refusal.Plain 10)
   at : (r n : ℕ) → EndsAt b z r n → Ends b z (refusal.At r n)
 
+-- after any calls from a fresh start, a read that is refused otherwise than with 9 is refused as the words say that the block ends
+abbrev pub RefusedTold : Type 0
+RefusedTold =
+    (rules : Rules) (bytes dir : List ℕ) (count : ℕ) (l : Lent) → Fresh bytes dir count l → (calls : List Call) (q : Refusal) → ((n : ℕ) → q ≡ refusal.At 9 n → ⊥)
+    → read rules bytes dir (run rules bytes dir l calls) .answer ≡ answer.Refused q → Ends (telling rules bytes dir count) (run rules bytes dir l calls) q
+
 -- two memories hold one name
 pub record SameName (z w : Lent) (i : ℕ) : Type 0 where
   pub name : Name
   pub one : Stands (z .kept) i name
   pub other : Stands (w .kept) i name
   pub bytes : nameAt z i ≡ nameAt w i
+
+-- two fresh starts on one block keep the same names, whatever each was lent and whatever was called
+abbrev pub SameNames : Type 0
+SameNames =
+    (rules : Rules) (bytes dir : List ℕ) (count : ℕ) (l w : Lent) → Fresh bytes dir count l → Fresh bytes dir count w → (calls others : List Call) (i : ℕ)
+    → i < run rules bytes dir l calls .kept .state .names → i < run rules bytes dir w others .kept .state .names → SameName (run rules bytes dir l calls) (run rules bytes dir w others) i

@@ -12,8 +12,8 @@ use Rattle.block.specs.declared.Opened.{Opened}
 use Rattle.block.specs.declared.Opened.the-variants as opened
 use Rattle.block.specs.Streams.{typeStream}
 use Rattle.block.specs.Block.{spanOf, startOf, endOf, Opening, openOf}
-use Rattle.types.specs.declared.TokenType.{TokenType}
-use Rattle.types.specs.Types.{typeNumber, draftNumbers, Rules, rulesOf, draftPlain}
+use Rattle.numbering.specs.declared.TokenType.{TokenType}
+use Rattle.numbering.specs.Types.{typeNumber, draftNumbers, Rules, rulesOf, draftPlain}
 use Rattle.tables.specs.Tables.{inRows, Kept, keeping}
 use Rattle.entries.specs.declared.Answer.{Answer}
 use Rattle.entries.specs.declared.Answer.the-variants as answer

@@ -13,4 +13,5 @@ pub mod Adds
 pub mod Afresh
 pub mod AfreshCases
 pub mod Traces
+pub mod Contracts
 pub mod Boundary

@@ -1,5 +1,5 @@
 -- What opening, writing and a read come to, each case with its cause. The causes leave none out, and no two that come to different outcomes hold together:
--- proofs/Refusals proves of each table that the outcome has its cause, and that the cause gives the outcome.
+-- of each table it is said below it that the outcome has its cause, and that the cause gives the outcome.
 use Prim.Native.Nat.{ℕ, _-_, _+_, _≤_, _<_}
 use mathlib.Core.Path.{_≡_}
 use mathlib.Core.Bool.{true, false}
@@ -12,13 +12,13 @@ use Rattle.spans.specs.declared.NextFour.the-variants as four
 use Rattle.block.specs.declared.Refusal.{Refusal}
 use Rattle.block.specs.declared.Refusal.the-variants as refusal
 use Rattle.block.specs.declared.Opened.the-variants as opened
-use Rattle.block.specs.Block.{Opening, opening, sound, starts, state, allInside, allAtEnd}
+use Rattle.block.specs.Block.{Opening, opening, openOf, sound, starts, state, allInside, allAtEnd}
 use Rattle.block.specs.Open.{Open}
 use Rattle.block.specs.Streams.{typeStream, dupStream, diffStream}
 use Rattle.tables.specs.Tables.{Kept}
 use Rattle.kept.specs.Judgement.{counts, earlierFits}
 use Rattle.kept.specs.Inside.{Counted, EntryInside}
-use Rattle.types.specs.Types.{Rules}
+use Rattle.numbering.specs.Types.{Rules}
 use Rattle.sources.specs.Source.{Source, Earlier, byteIn, fourIn}
 use Rattle.names.specs.Names.{Draft, draft, named, nameOf}
 use Rattle.entries.specs.declared.Answer.the-variants as answer
@@ -26,11 +26,12 @@ use Rattle.outcomes.specs.Outcomes.{Outcome, outcome}
 use Rattle.outcomes.specs.Keeping.{roomFor, kept}
 use Rattle.heads.specs.Heads.{headPast}
 use Rattle.earlier.specs.Back.{rowsOf, none, entryBack}
+use Rattle.reads.specs.Reads.{readOf}
 use Rattle.laying.specs.Puts.{totalOf, directoryOf, bytesOf}
 use Rattle.writing.specs.declared.WriteAnswer.the-variants as written
 use Rattle.inputs.specs.Inputs.{namesOf, ended, goodName}
 use Rattle.nameputs.specs.NamePuts.{putsOf}
-use Rattle.writing.specs.Writes.{Writing, writing}
+use Rattle.writing.specs.Writes.{Writing, writing, writeOf}
 use Rattle.demands.specs.Stops.{Reached, Stop}
 
 -- opening: 1, 12
@@ -38,6 +39,14 @@ pub data OpenCase (len : ℕ) (dir : List ℕ) (count : ℕ) (cur : List ℕ) : 
   opens-1 : sound len dir cur ≡ false → OpenCase len dir count cur (opening (opened.Refused (refusal.Plain 1)) cur)
   opens-12 : sound len dir cur ≡ true → 65536 < count → OpenCase len dir count cur (opening (opened.Refused (refusal.Plain 12)) cur)
   opens : sound len dir cur ≡ true → count ≤ 65536 → OpenCase len dir count cur (opening (opened.Fresh (state count 0 0 0)) (starts dir))
+
+-- what opening comes to has its cause
+abbrev pub OpenHasCase : Type 0
+OpenHasCase = (len : ℕ) (dir : List ℕ) (count : ℕ) (cur : List ℕ) → OpenCase len dir count cur (openOf len dir count cur)
+
+-- and the cause gives what opening comes to
+abbrev pub CaseOpens : Type 0
+CaseOpens = (len : ℕ) (dir : List ℕ) (count : ℕ) (cur : List ℕ) (o : Opening) → OpenCase len dir count cur o → openOf len dir count cur ≡ o
 
 -- no more names than 65,536, the last one with its byte 10
 abbrev pub Countable : List ℕ → Type 0
@@ -63,6 +72,14 @@ pub data WriteCase (rules : Rules) (input dir bytes : List ℕ) : Writing → Ty
   writes : length dir ≡ 2580 → Countable input → AllGood (namesOf input) → totalOf (putsOf rules (namesOf input)) ≤ length bytes
       → WriteCase rules input dir bytes
       (writing (written.Written (length (namesOf input)) (totalOf (putsOf rules (namesOf input)))) (directoryOf (putsOf rules (namesOf input))) (bytesOf (putsOf rules (namesOf input)) bytes))
+
+-- what writing comes to has its cause
+abbrev pub WriteHasCase : Type 0
+WriteHasCase = (rules : Rules) (input dir bytes : List ℕ) → WriteCase rules input dir bytes (writeOf rules input dir bytes)
+
+-- and the cause gives what writing comes to
+abbrev pub CaseWrites : Type 0
+CaseWrites = (rules : Rules) (input dir bytes : List ℕ) (w : Writing) → WriteCase rules input dir bytes w → writeOf rules input dir bytes ≡ w
 
 -- spans, counts and cursors are sound
 pub record Ready (s : Source) (m : Kept) : Type 0 where
@@ -138,6 +155,18 @@ pub data ReadCase (s : Source) (m : Kept) : Outcome → Type 0 where
   ends : Ready s m → m .state .names ≡ m .state .count → allAtEnd (s .dir) (s .cur) ≡ true → ReadCase s m (outcome answer.Done (s .cur) m)
   keeps : (x : Draft) (first rows d : ℕ) → Ready s m → (m .state .names ≡ m .state .count → ⊥) → Origin s m x first rows d → roomFor m x ≡ true
       → ReadCase s m (kept m x first rows d)
+
+-- what a read comes to has its cause
+abbrev pub ReadHasCase : Type 0
+ReadHasCase = (s : Source) (m : Kept) → ReadCase s m (readOf s m)
+
+-- and the cause gives what a read comes to
+abbrev pub CaseReads : Type 0
+CaseReads = (s : Source) (m : Kept) (o : Outcome) → ReadCase s m o → readOf s m ≡ o
+
+-- the number that goes with a read's refusal is that of the name being read
+abbrev pub CarriesNumber : Type 0
+CarriesNumber = (s : Source) (m : Kept) (r n : ℕ) → readOf s m .answer ≡ answer.Refused (refusal.At r n) → n ≡ m .state .names
 
 -- the numbers that the walk over a name's tokens can refuse with: 2, 3 and 5 to 8
 abbrev pub ByToken : ℕ → Type 0

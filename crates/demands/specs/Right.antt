@@ -3,20 +3,23 @@ use Prim.Native.Nat.{ℕ, _+_, _≤_, _<_}
 use mathlib.Core.Path.{_≡_}
 use mathlib.Core.List.{List}
 use mathlib.Core.Logic.{_⊎_}
-use lib.ListN.{getD}
+use lib.ListN.{getD, replicate}
+use Rattle.block.specs.declared.State.{State}
 use Rattle.block.specs.declared.Refusal.{Refusal}
 use Rattle.block.specs.declared.Refusal.the-variants as refusal
 use Rattle.block.specs.Open.{Open}
 use Rattle.tables.specs.Tables.{Kept, entryAt, rowAt, Table}
 use Rattle.kept.specs.Inside.{Counted, TextInside, RowsInside, RowInside}
+use Rattle.sources.specs.Source.{Source}
 use Rattle.entries.specs.declared.Answer.the-variants as answer
+use Rattle.reading.specs.Blocks.{blockOf}
 use Rattle.claims.specs.declared.Verdict.the-variants.{Confirmed, Denied, Refused}
 use Rattle.claims.specs.Claims.{nameText}
 use Rattle.demands.specs.Printing.{rowText, rowPrints, rowsPrint}
 use Rattle.demands.specs.ByWords.{ByWords}
 use Rattle.demands.specs.Refusals.{ByRule}
-use Rattle.demands.specs.Runs.{Lent, Reads, read, claimed, nameAt}
-use Rattle.types.specs.Types.{Rules}
+use Rattle.demands.specs.Runs.{Lent, Keeps, Reads, read, left, Fresh, Accepts, freshOver, Call, reading, run, claimed, nameAt}
+use Rattle.numbering.specs.Types.{Rules}
 use Rattle.words.specs.Words.{Telling, telling}
 
 -- a row: its kind and values are in order, its text is inside the kept text and is what the row prints
@@ -84,3 +87,58 @@ pub record Demand3 (rules : Rules) (bytes dir : List ℕ) (l z : Lent) : Type 0 
   pub reads : Reads rules bytes dir l z
   -- no read is refused for what is kept
   pub refusals : (r : Refusal) → read rules bytes dir z .answer ≡ answer.Refused r → Sane z r
+
+-- at all times, so after any calls from a fresh start: the counts and cursors are sound, every kept name's tokens, printed end to end, are that name,
+-- each row is the one that the words say, and each reference, a distance of 1 or more (C-11), points to a lower number
+abbrev pub AlwaysRight : Type 0
+AlwaysRight =
+    (rules : Rules) (bytes dir : List ℕ) (count : ℕ) (l : Lent) → Fresh bytes dir count l
+    → (calls : List Call) → Right rules bytes dir (telling rules bytes dir count) (run rules bytes dir l calls)
+
+-- every claim at any time
+abbrev pub AlwaysJudged : Type 0
+AlwaysJudged =
+    (rules : Rules) (bytes dir : List ℕ) (count : ℕ) (l : Lent) → Fresh bytes dir count l
+    → (calls : List Call) (number : ℕ) (claim : List ℕ) → Judged (run rules bytes dir l calls) number claim
+
+-- the calls that kept nothing leave no mark: the memory is that of as many reads in a row as kept a name
+abbrev pub OnlyKept : Type 0
+OnlyKept = (rules : Rules) (bytes dir : List ℕ) (calls : List Call) (l : Lent) → Reads rules bytes dir l (run rules bytes dir l calls)
+
+-- the same reads, made one after another and nothing between, lead there too
+abbrev pub PlainReads : Type 0
+PlainReads = (rules : Rules) (bytes dir : List ℕ) (n : ℕ) (l z : Lent) → Keeps rules bytes dir n l z → run rules bytes dir l (replicate n reading) ≡ z
+
+-- what is kept is what reading the block from its start gives, whatever was refused in between:
+-- after any calls the names are the first of those that a whole-block read keeps
+abbrev pub FirstNames : Type 0
+FirstNames =
+    (s : Source) (m : Kept) (count : ℕ) (st : State) (cur : List ℕ) → Accepts s count st cur
+    → (calls : List Call) (i : ℕ) → i < run (s .rules) (s .bytes) (s .dir) (freshOver m st cur) calls .kept .state .names
+    → (i < blockOf s m count .kept .state .names)
+    × (nameAt (run (s .rules) (s .bytes) (s .dir) (freshOver m st cur) calls) i ≡ nameAt (left (blockOf s m count)) i)
+
+-- from a fresh start no read meets 1 or 13
+abbrev pub AlwaysSane : Type 0
+AlwaysSane =
+    (rules : Rules) (bytes dir : List ℕ) (count : ℕ) (l : Lent) → Fresh bytes dir count l
+    → (calls : List Call) (q : Refusal) → read rules bytes dir (run rules bytes dir l calls) .answer ≡ answer.Refused q → Sane (run rules bytes dir l calls) q
+
+-- demand 3: start fresh on one block and make any sequence of reads and claims, refused ones too
+abbrev pub AlwaysDemand3 : Type 0
+AlwaysDemand3 =
+    (rules : Rules) (bytes dir : List ℕ) (count : ℕ) (l : Lent) → Fresh bytes dir count l
+    → (calls : List Call) → Demand3 rules bytes dir l (run rules bytes dir l calls)
+
+-- and from a whole-block read on: once its opening has accepted the block, what it leaves is what reads from that fresh start leave,
+-- and so is what any sequence of reads and claims leaves that follows it
+abbrev pub BlockDemand3 : Type 0
+BlockDemand3 =
+    (s : Source) (m : Kept) (count : ℕ) (st : State) (cur : List ℕ) → Accepts s count st cur
+    → (calls : List Call) → Demand3 (s .rules) (s .bytes) (s .dir) (freshOver m st cur) (run (s .rules) (s .bytes) (s .dir) (left (blockOf s m count)) calls)
+
+-- so what it leaves is right
+abbrev pub BlockRight : Type 0
+BlockRight =
+    (s : Source) (m : Kept) (count : ℕ) (st : State) (cur : List ℕ) → Accepts s count st cur
+    → Right (s .rules) (s .bytes) (s .dir) (telling (s .rules) (s .bytes) (s .dir) (st .count)) (left (blockOf s m count))

@@ -6,14 +6,14 @@ use lib.ListN.{length}
 use Rattle.block.specs.declared.Opened.the-variants as opened
 use Rattle.block.specs.declared.State.{State}
 use Rattle.block.specs.Block.{openOf, opening}
-use Rattle.tables.specs.Tables.{Kept, entryAt}
-use Rattle.sources.specs.Source.{source}
+use Rattle.tables.specs.Tables.{Kept, keeping, entryAt}
+use Rattle.sources.specs.Source.{Source, source}
 use Rattle.entries.specs.declared.Answer.the-variants as answer
 use Rattle.outcomes.specs.Outcomes.{Outcome}
 use Rattle.reads.specs.Reads.{readOf}
 use Rattle.claims.specs.declared.Verdict.{Verdict}
 use Rattle.claims.specs.Claims.{nameText, claimOf}
-use Rattle.types.specs.Types.{Rules}
+use Rattle.numbering.specs.Types.{Rules}
 
 -- the memory that calls hand on: the cursors, and the state with the text buffer and both tables
 pub record Lent : Type 0 where
@@ -47,6 +47,14 @@ pub record Fresh (bytes dir : List ℕ) (count : ℕ) (l : Lent) : Type 0 where
   pub state : State
   pub opens : openOf (length bytes) dir count old ≡ opening (opened.Fresh state) (l .cur)
   pub begins : l .kept .state ≡ state
+
+-- a whole-block read whose opening accepts the block, with the state and the cursors that it leaves
+abbrev pub Accepts : Source → ℕ → State → List ℕ → Type 0
+Accepts s count st cur = openOf (length (s .bytes)) (s .dir) count (s .cur) ≡ opening (opened.Fresh st) cur
+
+-- what its reads begin with: these, and the buffers as they were lent
+abbrev pub freshOver : Kept → State → List ℕ → Lent
+freshOver m st cur = lent cur (keeping st (m .text) (m .names) (m .rows))
 
 -- a call on the open block: a read, or a claim that a name has these bytes
 pub data Call : Type 0 where

@@ -4,6 +4,7 @@
 use Prim.Native.Nat.{ℕ, _+_, _^_, _≤_, _<_}
 use mathlib.Core.Path.{_≡_}
 use mathlib.Core.Bool.{true, false}
+use mathlib.Core.List.{List}
 use mathlib.Core.Logic.{_⊎_}
 use lib.ListN.{length}
 use Rattle.classes.specs.Classes.{allAllowed}
@@ -12,15 +13,16 @@ use Rattle.spans.specs.declared.NextByte.the-variants as byte
 use Rattle.spans.specs.declared.NextFour.the-variants as four
 use Rattle.spans.specs.declared.NextText.the-variants as text
 use Rattle.block.specs.Streams.{typeStream, stringStream, charStream, digits0Stream, dzlenStream, digitsStream, ddeltaStream, ddelta0Stream}
-use Rattle.types.specs.declared.TokenType.{TokenType}
-use Rattle.types.specs.declared.TokenType.the-variants as type
+use Rattle.numbering.specs.declared.TokenType.{TokenType}
+use Rattle.numbering.specs.declared.TokenType.the-variants as type
 use Rattle.tokens.specs.declared.Token.{Token}
-use Rattle.types.specs.Types.{typeOf}
+use Rattle.numbering.specs.Types.{typeOf}
 use Rattle.tokens.specs.Tokens.{bytesOf}
 use Rattle.sources.specs.Source.{Source, Earlier, byteIn, fourIn, textIn}
 use Rattle.values.specs.declared.Step.the-variants as step
 use Rattle.repeats.specs.Repeats.{rowHere}
 use Rattle.steps.specs.Steps.{stepAt}
+use Rattle.names.specs.Names.{refused, nameOf}
 
 -- the type that stands at position p
 pub record Typed (s : Source) (p : ℕ) (y : TokenType) : Type 0 where
@@ -85,3 +87,15 @@ pub record StopsAt (s : Source) (e : Earlier) (r : ℕ) : Type 0 where
   pub printed : ℕ
   pub reached : Reached s e position printed
   pub stops : Stop s e position printed r
+
+-- a name that is refused has its cause
+abbrev pub NameStops : Type 0
+NameStops = (s : Source) (e : Earlier) (used : ℕ) (cur : List ℕ) (r : ℕ) → nameOf s e used cur ≡ refused r → StopsAt s e r
+
+-- and the cause gives the refusal
+abbrev pub StopsName : Type 0
+StopsName = (s : Source) (e : Earlier) (used : ℕ) (cur : List ℕ) (p len r : ℕ) → Reached s e p len → Stop s e p len r → nameOf s e used cur ≡ refused r
+
+-- so no two causes with different numbers hold together, whatever their positions
+abbrev pub OneStop : Type 0
+OneStop = (s : Source) (e : Earlier) (p a r q b t : ℕ) → Reached s e p a → Stop s e p a r → Reached s e q b → Stop s e q b t → r ≡ t

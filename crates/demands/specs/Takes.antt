@@ -5,8 +5,8 @@ use Rattle.base.specs.Choice.{pick}
 use Rattle.spans.specs.Spans.{textEnd}
 use Rattle.block.specs.Block.{spanOf, endOf, cursorOf}
 use Rattle.block.specs.Streams.{typeStream, stringStream, charStream, digits0Stream, dzlenStream, digitsStream, ddeltaStream, ddelta0Stream}
-use Rattle.types.specs.declared.TokenType.{TokenType}
-use Rattle.types.specs.declared.TokenType.the-variants as type
+use Rattle.numbering.specs.declared.TokenType.{TokenType}
+use Rattle.numbering.specs.declared.TokenType.the-variants as type
 use Rattle.sources.specs.Source.{Source}
 use Rattle.names.specs.Names.{typeAt}
 

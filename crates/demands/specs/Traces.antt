@@ -2,17 +2,21 @@
 use mathlib.Core.Path.{_≡_}
 use mathlib.Core.List.{List, [], _∷_}
 use Prim.Native.Nat.{ℕ, _≤_, _<_}
+use Rattle.block.specs.declared.State.{State}
 use Rattle.block.specs.declared.Refusal.{Refusal}
 use Rattle.block.specs.declared.Refusal.the-variants as refusal
+use Rattle.tables.specs.Tables.{Kept}
+use Rattle.sources.specs.Source.{Source}
 use Rattle.entries.specs.declared.Answer.{Answer}
 use Rattle.entries.specs.declared.Answer.the-variants as answer
 use Rattle.outcomes.specs.Outcomes.{Outcome}
+use Rattle.reading.specs.Blocks.{blockOf}
 use Rattle.claims.specs.declared.Verdict.{Verdict}
 use Rattle.claims.specs.declared.Verdict.the-variants as verdict
-use Rattle.demands.specs.Runs.{Lent, left, read, claimed, nameAt, Call, reading, claiming}
+use Rattle.demands.specs.Runs.{Lent, left, read, claimed, nameAt, Fresh, Accepts, freshOver, Call, reading, claiming}
 use Rattle.demands.specs.Right.{Sane, Demand3}
 use Rattle.demands.specs.Done.{AtEnd}
-use Rattle.types.specs.Types.{Rules}
+use Rattle.numbering.specs.Types.{Rules}
 
 -- each call was handed the memory that the one before left, and its outcome meets its contract
 pub data Seen (rules : Rules) (bytes dir : List ℕ) : Lent → List Call → Lent → Type 0 where
@@ -41,3 +45,16 @@ unfoldable pub EachSeen : (rules : Rules) (bytes dir : List ℕ) (f l z : Lent) 
 EachSeen rules bytes dir f l z [] (nothing a) = Demand3 rules bytes dir f l
 EachSeen rules bytes dir f l z (c ∷ cs) (a-read a b o calls e t) = Demand3 rules bytes dir f l × (ReadSays dir l (o .answer) × EachSeen rules bytes dir f (left o) z cs t)
 EachSeen rules bytes dir f l z (c ∷ cs) (a-claim a b number claim v calls e t) = Demand3 rules bytes dir f l × (ClaimSays l number claim v × EachSeen rules bytes dir f l z cs t)
+
+-- demand 3 of the code, of each call that was seen from a fresh start on
+abbrev pub Demand3Seen : Type 0
+Demand3Seen =
+    (rules : Rules) (bytes dir : List ℕ) (count : ℕ) (l z : Lent) → Fresh bytes dir count l
+    → (calls : List Call) (t : Seen rules bytes dir l calls z) → EachSeen rules bytes dir l l z calls t
+
+-- and from a whole-block read on
+abbrev pub BlockDemand3Seen : Type 0
+BlockDemand3Seen =
+    (s : Source) (m : Kept) (count : ℕ) (st : State) (cur : List ℕ) → Accepts s count st cur
+    → (o : Outcome) → o ≡ blockOf s m count → (z : Lent) (calls : List Call) (t : Seen (s .rules) (s .bytes) (s .dir) (left o) calls z)
+    → EachSeen (s .rules) (s .bytes) (s .dir) (freshOver m st cur) (left o) z calls t

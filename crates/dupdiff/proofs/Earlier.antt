@@ -7,7 +7,7 @@ use native.Mathlib.Omega.{arith}
 use lib.ListN.{length}
 use Rattle.base.proofs.Choice.{took, left}
 use Rattle.block.specs.declared.State.{State}
-use Rattle.types.specs.Types.{Rules}
+use Rattle.numbering.specs.Types.{Rules}
 use Rattle.tables.specs.declared.Entry.{Entry}
 use Rattle.tables.specs.Tables.{entrySize, keeping, entryAt, Table, rowRoom}
 use Rattle.kept.specs.Judgement.{earlierFits}

@@ -4,14 +4,13 @@ use mathlib.Core.Path.{_≡_, refl, sym, ap, _∙_, subst}
 use mathlib.Core.Bool.{Bool, true}
 use mathlib.Core.List.{List, []}
 use native.Mathlib.Omega.{arith}
-use borrow.Author.Tests.{eqb-true, eqb-false}
+use borrow.Author.Tests.{eq-eqb, ne-eqb}
 use lib.Dec.{eqb}
-use Rattle.base.specs.Choice.{pick}
-use Rattle.base.proofs.Choice.{took, left, pick-holds}
+use Rattle.base.specs.Choice.{pick, either}
+use Rattle.base.proofs.Choice.{took, left}
 use Rattle.block.specs.declared.State.{State}
-use Rattle.types.specs.Types.{Rules}
-use Rattle.tables.specs.Tables.{keeping, entryAt, Table}
-use Rattle.kept.specs.Judgement.{earlierFits}
+use Rattle.numbering.specs.Types.{Rules}
+use Rattle.tables.specs.Tables.{keeping, Table}
 use Rattle.kept.specs.Inside.{Counted}
 use Rattle.kept.proofs.Laws.{earlier-text}
 use Rattle.sources.specs.Source.{source, earlier}
@@ -21,8 +20,8 @@ use Rattle.repeating.specs.Repeats.{Repeats}
 use Rattle.earlier.specs.declared.Back.{Back}
 use Rattle.earlier.specs.declared.Back.the-variants as back
 use Rattle.earlier.specs.Fits.{AllFit, Known}
-use Rattle.earlier.specs.Back.{none, rowsOf, entryBack, backOf}
-use Rattle.earlier.proofs.Leaning.{back-entry}
+use Rattle.earlier.specs.Back.{none, rowsOf, saidBack, noneOrFits, backOf}
+use Rattle.earlier.proofs.Leaning.{back-entry, back-all, back-holds}
 use Rattle.entries.specs.declared.Reading.{Reading}
 use Rattle.outcomes.specs.Outcomes.{Outcome, outcome, refusing, atName}
 use Rattle.outcomes.proofs.Keeping.{refused-at}
@@ -31,9 +30,14 @@ use Rattle.naming.proofs.Walking.{none-spelt}
 use Rattle.dupdiff.specs.Judged.{diffJudged}
 use Rattle.dupdiff.proofs.Earlier.{back-rows, back-spelt}
 
--- what is known to fit, fits whatever the text is
-pub all-fit : (st : State) (text names : List ℕ) (rows : Table) {known : Bool} → Known known (keeping st text names rows) → known ≡ true → AllFit (keeping st [] names rows)
+-- what is known to fit, fits whatever the text is, and then DIFF goes by what the earlier name's entry says
+all-fit : (st : State) (text names : List ℕ) (rows : Table) {known : Bool} → Known known (keeping st text names rows) → known ≡ true → AllFit (keeping st [] names rows)
 all-fit st text names rows k q i l = earlier-text st [] text names rows i ∙ k q .0 i l
+
+pub back-known : (st : State) (text names : List ℕ) (rows : Table) (d : ℕ) {known : Bool} → Known known (keeping st text names rows) → known ≡ true → d ≤ st .names
+    → {r : Back} → r ≡ saidBack names (st .names) d → r ≡ backOf (keeping st [] names rows) d
+back-known st text names rows d k q near e =
+    e ∙ back-all (keeping st [] names rows) d (all-fit st text names rows k q) near
 
 module _ (text : List ℕ) (rows : Table) (st : State) (known : Bool) where
   -- what DIFF requires of its rows
@@ -44,9 +48,9 @@ module _ (text : List ℕ) (rows : Table) (st : State) (known : Bool) where
 module _ (rules : Rules) (bytes dir cur text names : List ℕ) (rows : Table) (st : State) (d : ℕ) where
   -- what the kept text is doesn't matter
   same-back : backOf (keeping st [] names rows) d ≡ backOf (keeping st text names rows) d
-  unfolding backOf entryBack
+  unfolding backOf noneOrFits
   same-back =
-      ap (λ (x : Bool). pick (eqb d 0) (back.Rows 0 0) (pick x (back.Rows (entryAt names (st .names - d) .first) (entryAt names (st .names - d) .rows)) back.Outside))
+      ap (λ (x : Bool). pick (either (eqb d 0) x) (saidBack names (st .names) d) back.Outside)
       (earlier-text st [] text names rows (st .names - d))
 
   -- a DIFF over them
@@ -55,12 +59,12 @@ module _ (rules : Rules) (bytes dir cur text names : List ℕ) (rows : Table) (s
   over back.Outside = atName (source rules bytes dir cur) (keeping st text names rows) 13
 
   over-judged : over (backOf (keeping st text names rows) d) ≡ diffJudged (source rules bytes dir cur) (keeping st text names rows) d
-  unfolding backOf none rowsOf over
+  unfolding none rowsOf over
   over-judged =
-      let J : Back → Type 0 = λ x. over x ≡ diffJudged (source rules bytes dir cur) (keeping st text names rows) d in
-      pick-holds J (eqb d 0) _ _
-      (λ h. took _ _ h (ap (λ (x : ℕ). diffOf (source rules bytes dir cur) (keeping st text names rows) x (earlier text rows 0 0)) (eqb-true _ _ h)))
-      (λ h. pick-holds J (earlierFits (keeping st text names rows) (st .names - d)) _ _ (λ g. left _ _ h (took _ _ g refl)) (λ g. left _ _ h (left _ _ g refl)))
+      back-holds (keeping st text names rows) d (λ (x : Back). over x ≡ diffJudged (source rules bytes dir cur) (keeping st text names rows) d)
+      (λ z. took _ _ (eq-eqb d 0 z) (ap (λ (x : ℕ). diffOf (source rules bytes dir cur) (keeping st text names rows) x (earlier text rows 0 0)) z))
+      (λ z g. left _ _ (ne-eqb _ _ z) (took _ _ g refl))
+      (λ z g. left _ _ (ne-eqb _ _ z) (left _ _ g refl))
 
   module _ {b : Back} (e : b ≡ backOf (keeping st [] names rows) d) where
     pub diff-over : {f n : ℕ} → b ≡ back.Rows f n → {o : Outcome} → o ≡ diffOf (source rules bytes dir cur) (keeping st text names rows) d (earlier text rows f n)
@@ -75,17 +79,15 @@ module _ (rules : Rules) (bytes dir cur text names : List ℕ) (rows : Table) (s
 
     module _ (c : Counted (keeping st text names rows)) (near : d ≤ st .names) {known : Bool} (k : Known known (keeping st text names rows)) where
       leant : Leant text rows st known (backOf (keeping st text names rows) d)
-      unfolding backOf Leant
+      unfolding Leant
       leant =
-          pick-holds (Leant text rows st known) (eqb d 0) _ _
-          (λ h. ((rows-none _ _ _ (c .used), omega arith), λ q. none-spelt _ _))
-          (λ h.
-          let z = eqb-false d 0 h in
+          back-holds (keeping st text names rows) d (Leant text rows st known)
+          (λ z. ((rows-none _ _ _ (c .used), omega arith), λ q. none-spelt _ _))
+          (λ z g.
           let n : st .names - d < st .names = omega arith in
           let x = back-entry (keeping st text names rows) d in
-          pick-holds (Leant text rows st known) (earlierFits (keeping st text names rows) (st .names - d)) _ _
-          (λ g. (back-rows st text names rows (st .names - d) c n g x, back-spelt st text names rows (st .names - d) c n k x))
-          (λ g. tt))
+          (back-rows st text names rows (st .names - d) c n g x, back-spelt st text names rows (st .names - d) c n k x))
+          (λ z g. tt)
 
       pub leant-rows : {f n : ℕ} → b ≡ back.Rows f n → (Rows (st .text) (earlier text rows f n) × (f + n ≤ st .rows)) × Repeats known (earlier text rows f n)
       unfolding Leant

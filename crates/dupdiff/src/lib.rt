@@ -6,7 +6,7 @@ ghost use lib.ListN.{length};
 ghost use Rattle.block.specs.Open.{Open};
 ghost use Rattle.tables.specs.Tables.{keeping, tablesLent, inRows};
 ghost use Rattle.kept.specs.Inside.{Counted};
-ghost use Rattle.types.specs.Types.{Rules, rulesOf};
+ghost use Rattle.numbering.specs.Types.{Rules, rulesOf};
 ghost use Rattle.sources.specs.Source.{source, blockLent};
 ghost use Rattle.earlier.specs.Fits.{Known};
 ghost use Rattle.outcomes.specs.Outcomes.{leaves};
@@ -65,7 +65,13 @@ pub fn diff(
     requires { ⌜ Known known (keeping state (now text) (now entries) (inRows (now rows))) ⌝ }
     ensures { λ r. ⌜ leaves r cursors text entries rows ≡ diffJudged (blockLent set bytes dir cursors) (tablesLent state text entries rows) (distance .0) ⌝ }
 {
-    match earlier::leans(known, state, entries, rows, distance) {
+    // Asked here, so that nothing is handed on to a judgement that isn't made.
+    let back = if known {
+        earlier::said_back(state, entries, distance)
+    } else {
+        earlier::leans(state, entries, rows, distance)
+    };
+    match back {
         Back::Rows { first, count } => naming::named(
             set,
             known,

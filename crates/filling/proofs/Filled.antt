@@ -1,13 +1,13 @@
 -- From the passes to what they find and fill: the total, the directory and the bytes.
-use Prim.Native.Nat.{ℕ, _+_, _*_, _^_, _≤_, _<_}
+use Prim.Native.Nat.{ℕ, _+_, _^_, _≤_, _<_}
 use mathlib.Core.Path.{_≡_, sym, ap, _∙_, subst}
-use mathlib.Core.Bool.{Bool, true}
+use mathlib.Core.Bool.{Bool}
 use mathlib.Core.List.{List, []}
 use native.Mathlib.Omega.{arith}
 use borrow.Author.Tests.{le-leb}
 use lib.Dec.{leb}
 use lib.ListN.{length}
-use Rattle.types.specs.Types.{Rules}
+use Rattle.numbering.specs.Types.{Rules}
 use Rattle.laying.specs.declared.Pass.the-variants.{Total, Sizes, Fill}
 use Rattle.laying.specs.Puts.{Put, startIn, tableOf, totalOf, directoryOf, bytesOf}
 use Rattle.laying.specs.Passes.{World, world, runOf, Roomy, offsetIn, placesOf, cleared}
@@ -15,7 +15,7 @@ use Rattle.laying.proofs.Passes.{Inside, sizeOf, size-total, total-run, total-r
 use Rattle.laying.proofs.Filling.{fill-room, fill-all, sizesIn, sizes-room, sizes-all, length-sizes, places-start, places-total}
 use Rattle.inputs.specs.Inputs.{namesOf}
 use Rattle.nameputs.specs.NamePuts.{putsOf}
-use Rattle.filling.specs.Ready.{Ready}
+use Rattle.filling.specs.Ready.{Ready, Ample}
 use Rattle.nameputs.proofs.Totals.{puts-inside, total-below, total-most}
 
 -- all that the names of an input put
@@ -29,6 +29,9 @@ inside rules input = puts-inside rules 0 [] (namesOf input)
 total-size : (rules : Rules) (input : List ℕ) → sizeOf (putsIn rules input) ≡ totalOf (putsIn rules input)
 total-size rules input = size-total (putsIn rules input) (inside rules input)
 
+pub ample : Ample
+ample rules input dir bytes k h = let l : totalOf (putsIn rules input) ≤ length bytes = omega (arith, total-most rules input) in sym (le-leb _ _ l)
+
 module _ (rules : Rules) (input dir bytes : List ℕ) (k : Ready input dir) where
   below : totalOf (putsIn rules input) < 2 ^ 32
   below = total-below rules (namesOf input) (k .fine) (k .few)
@@ -40,9 +43,6 @@ module _ (rules : Rules) (input dir bytes : List ℕ) (k : Ready input dir) wher
 
   pub total-room : Roomy Total (putsIn rules input) (world 0 dir bytes)
   total-room = total-roomy (putsIn rules input) 0 dir bytes (inside rules input) (k .table) (omega (arith, size-below))
-
-  pub ample : 6 * length input ≤ length bytes → true ≡ leb (totalOf (putsIn rules input)) (length bytes)
-  ample h = let l : totalOf (putsIn rules input) ≤ length bytes = omega (arith, total-most rules input) in sym (le-leb _ _ l)
 
   module _ {t : ℕ} {d y : List ℕ} (e : world t d y ≡ runOf Total (putsIn rules input) (world 0 dir bytes)) where
     all : world t d y ≡ world (0 + sizeOf (putsIn rules input)) dir bytes

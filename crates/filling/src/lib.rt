@@ -4,7 +4,7 @@ ghost use Prim.Native.Nat.{_≤_};
 ghost use lib.Dec.{leb};
 ghost use lib.ListN.{length};
 ghost use Rattle.classes.specs.Classes.{classTable};
-ghost use Rattle.types.specs.Types.{rulesOf};
+ghost use Rattle.numbering.specs.Types.{rulesOf};
 ghost use Rattle.laying.specs.Puts.{totalOf};
 ghost use Rattle.inputs.specs.Inputs.{namesOf};
 ghost use Rattle.nameputs.specs.NamePuts.{putsOf};

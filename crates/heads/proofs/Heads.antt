@@ -19,8 +19,8 @@ use Rattle.block.specs.Block.{spanOf, endOf, cursorOf}
 use Rattle.block.specs.Open.{Open}
 use Rattle.block.proofs.Laws.{span-below, span-stream, cursor-set-other, open-set}
 use Rattle.block.specs.Streams.{typeStream, dupStream, diffStream}
-use Rattle.types.specs.Types.{Rules}
-use Rattle.types.proofs.Laws.{dup-not-diff}
+use Rattle.numbering.specs.Types.{Rules}
+use Rattle.numbering.proofs.Laws.{dup-not-diff}
 use Rattle.sources.specs.Source.{Source, source, byteIn}
 use Rattle.moving.specs.Moves.{past}
 use Rattle.names.proofs.Cursors.{byte-reach, four-reach}

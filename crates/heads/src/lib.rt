@@ -3,7 +3,7 @@ ghost use mathlib.Core.Path.{_≡_};
 ghost use Prim.Native.Nat.{_≤_};
 ghost use lib.ListN.{length};
 ghost use Rattle.block.specs.Open.{Open};
-ghost use Rattle.types.specs.Types.{Rules};
+ghost use Rattle.numbering.specs.Types.{Rules};
 ghost use Rattle.sources.specs.Source.{source, blockLent};
 ghost use Rattle.heads.specs.Headed.{Passable};
 ghost use Rattle.heads.specs.Heads.{distanceIn, headOf, headPast};
@@ -31,9 +31,9 @@ pub fn head(set: Setting, bytes: &[u8], dir: &[u32], cursors: &[u32], n: u32) ->
     match sources::byte_in(bytes, dir, cursors, Position(0), stream::TYPE) {
         NextByte::Value(t, _) => {
             let kind = set.kind;
-            if t == types::dup_number(kind) {
+            if t == numbering::dup_number(kind) {
                 distances::dup_head(n, distance_in(bytes, dir, cursors, stream::DUP))
-            } else if t == types::diff_number(kind) {
+            } else if t == numbering::diff_number(kind) {
                 distances::diff_head(n, distance_in(bytes, dir, cursors, stream::DIFF))
             } else {
                 Head::Refused(3)

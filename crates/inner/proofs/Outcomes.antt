@@ -10,7 +10,7 @@ use Rattle.spans.specs.declared.Distance.{Distance}
 use Rattle.block.specs.declared.State.{State}
 use Rattle.block.specs.Block.{allAtEnd}
 use Rattle.block.specs.declared.Refusal.the-variants as refusal
-use Rattle.types.specs.Types.{Rules}
+use Rattle.numbering.specs.Types.{Rules}
 use Rattle.tables.specs.Tables.{keeping, Table}
 use Rattle.sources.specs.Source.{source}
 use Rattle.entries.specs.declared.Reading.{Reading}

@@ -1,13 +1,13 @@
 -- The writer's input: names, each ended by byte 10.
 use Prim.Native.Nat.{ℕ, _+_, _-_, _≤_, _<_}
 use mathlib.Core.Path.{_≡_}
-use mathlib.Core.Bool.{Bool}
+use mathlib.Core.Bool.{Bool, true, false}
 use mathlib.Core.List.{List, [], _∷_, _++_}
 use lib.Dec.{leb, eqb}
 use lib.ListN.{length, getD, drop}
 use Rattle.base.specs.Choice.{pick, both, either}
 use Rattle.base.specs.Memory.{part}
-use Rattle.classes.specs.Classes.{allAllowed}
+use Rattle.classes.specs.Classes.{isAllowed, allAllowed}
 use Rattle.inputs.specs.declared.Judged.{Judged}
 use Rattle.inputs.specs.declared.Judged.the-variants.{Fine, Bad}
 
@@ -25,6 +25,13 @@ pub record NameAt (input : List ℕ) (at end : ℕ) : Type 0 where
   pub low : at ≤ end
   pub high : end < length input
   pub first : namesAfter [] (drop at input) ≡ part input at end ∷ namesAfter [] (drop (end + 1) input)
+
+-- bytes of an input that are allowed, from a place up to one that isn't
+pub record AllowedTo (input : List ℕ) (at end : ℕ) : Type 0 where
+  pub low : at ≤ end
+  pub high : end < length input
+  pub allowed : allAllowed (part input at end) ≡ true
+  pub barred : isAllowed (getD input end 0) ≡ false
 
 -- no byte, or the last one is 10
 unfoldable pub ended : List ℕ → Bool

@@ -9,7 +9,7 @@ use lib.Dec.{eqb}
 use lib.ListN.{length}
 use Rattle.base.proofs.Choice.{pick-true, pick-false, by-test}
 use Rattle.block.specs.declared.Refusal.the-variants.{Plain, At}
-use Rattle.types.specs.Types.{draftPlain, Rules, rulesOf}
+use Rattle.numbering.specs.Types.{draftPlain, Rules, rulesOf}
 use Rattle.laying.specs.Puts.{totalOf}
 use Rattle.inputs.specs.declared.Judged.{Judged}
 use Rattle.inputs.specs.declared.Judged.the-variants.{Fine, Bad}
@@ -23,7 +23,7 @@ use Rattle.writing.proofs.Laid.{countable-of, unended}
 use Rattle.pages.specs.Page.{Page, said, HasRoom}
 use Rattle.lines.specs.Lines.{linesOf}
 use Rattle.closing.specs.Closing.{refusalText, totalsText}
-use Rattle.listed.specs.Listing.{answerText, judgedAnswer, answerOf, listingOf, listedOf, Good}
+use Rattle.listed.specs.Listing.{answerText, judgedAnswer, answerOf, listingOf, listedOf, Good, ListingWritten}
 use Rattle.pages.proofs.Pages.{first-room, next-room, said-next, same-room, same-said}
 
 pub ready : (input dir : List ℕ) → Good input → length dir ≡ 2580 → Ready input dir
@@ -113,7 +113,6 @@ answer-written rules input dir bytes e h =
     (λ t. ap (λ (x : Writing). x .answer) (pick-true _ _ t) ∙ judged-answer rules (namesOf input) dir bytes h (judgedFrom 0 (namesOf input)) ∙ sym (pick-true _ _ t))
     (λ t. ap (λ (x : Writing). x .answer) (pick-false _ _ t) ∙ sym (pick-false _ _ t))
 
--- so a listing is what is said of the writer's answer
-pub listing-written : (rules : Rules) (input dir bytes : List ℕ) → length dir ≡ 2580 → totalOf (putsOf rules (namesOf input)) ≤ length bytes → listingOf rules input ≡ answerText (namesOf input) (writeOf rules input dir bytes .answer)
+pub listing-written : ListingWritten
 unfolding listingOf
 listing-written rules input dir bytes e h = ap (answerText (namesOf input)) (sym (answer-written rules input dir bytes e h))

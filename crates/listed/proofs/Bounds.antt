@@ -1,4 +1,4 @@
--- "Its own room always suffices": how long a listing can be.
+-- How long a listing can be.
 use Prim.Native.Nat.{ℕ, _+_, _*_, _≤_}
 use mathlib.Core.Path.{ap}
 use mathlib.Core.Logic.{⊎-elim}
@@ -9,13 +9,13 @@ use lib.ListN.{length, length-append}
 use Rattle.base.proofs.Choice.{pick-true, pick-false}
 use Rattle.base.proofs.Numbers.{lt-or-ge}
 use Rattle.block.specs.declared.Refusal.the-variants.{Plain}
-use Rattle.types.specs.Types.{draftPlain, Rules, rulesOf}
+use Rattle.numbering.specs.Types.{draftPlain, Rules, rulesOf}
 use Rattle.writing.specs.declared.WriteAnswer.{WriteAnswer}
 use Rattle.writing.specs.declared.WriteAnswer.the-variants.{Written, Refused}
 use Rattle.inputs.specs.Inputs.{namesAfter, namesOf}
 use Rattle.lines.specs.Lines.{linesFrom, linesOf}
 use Rattle.closing.specs.Closing.{refusalText, totalsText}
-use Rattle.listed.specs.Listing.{answerText, answerOf, listingOf, listedOf}
+use Rattle.listed.specs.Listing.{answerText, answerOf, listingOf, listedOf, ListedShort}
 use Rattle.lines.proofs.Bounds.{weight, lines-short, weight-names}
 use Rattle.closing.proofs.Bounds.{refusal-short, totals-short}
 
@@ -28,8 +28,7 @@ listing-short : (rules : Rules) (input : List ℕ) → length (listingOf rules i
 unfolding listingOf namesOf
 listing-short rules input = omega (arith, answer-short (namesAfter [] input) (answerOf rules input), weight-names [] input)
 
--- the room that every input's listing has enough of
-pub listed-short : (input : List ℕ) → length (listedOf input) ≤ 131072
+pub listed-short : ListedShort
 unfolding listedOf
 listed-short input = ⊎-elim
     (λ l. omega (arith, ap length (pick-true (refusalText (Plain 9)) (listingOf (rulesOf draftPlain) input) (lt-ltb _ _ l)), refusal-short (Plain 9)))

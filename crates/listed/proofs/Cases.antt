@@ -17,7 +17,7 @@ use Rattle.choices.specs.Choices.{leanString, leanChar, byRise, leanDigits, byR
 use Rattle.references.specs.References.{anew, referenceOf, leansOn}
 use Rattle.laying.specs.Puts.{share, contentOf, joined, startIn, totalOf}
 use Rattle.inputs.specs.Inputs.{namesAfter, namesOf, ended, goodName, judgedFrom}
-use Rattle.types.specs.Types.{numbersOf, typeNumber}
+use Rattle.numbering.specs.Types.{numbersOf, typeNumber}
 use Rattle.tokenputs.specs.TokenPuts.{pieceType, choiceType, choicePuts, tokenPuts}
 use Rattle.valueputs.specs.ValuePuts.{piecePuts, valuePuts}
 use Rattle.nameputs.specs.NamePuts.{headPuts, referencePuts, namePuts, putsFrom, putsOf}

@@ -7,7 +7,7 @@ use lib.Dec.{ltb}
 use lib.ListN.{length}
 use Rattle.base.specs.Choice.{pick}
 use Rattle.block.specs.declared.Refusal.the-variants.{Plain, At}
-use Rattle.types.specs.Types.{draftPlain, Rules, rulesOf}
+use Rattle.numbering.specs.Types.{draftPlain, Rules, rulesOf}
 use Rattle.laying.specs.Puts.{totalOf}
 use Rattle.inputs.specs.declared.Judged.{Judged}
 use Rattle.inputs.specs.declared.Judged.the-variants.{Fine, Bad}
@@ -15,7 +15,7 @@ use Rattle.writing.specs.declared.WriteAnswer.{WriteAnswer}
 use Rattle.writing.specs.declared.WriteAnswer.the-variants.{Written, Refused}
 use Rattle.inputs.specs.Inputs.{namesOf, ended, judgedFrom}
 use Rattle.nameputs.specs.NamePuts.{putsOf}
-use Rattle.writing.specs.Writes.{countable}
+use Rattle.writing.specs.Writes.{countable, writeOf}
 use Rattle.lines.specs.Lines.{linesOf}
 use Rattle.closing.specs.Closing.{refusalText, totalsText}
 
@@ -45,3 +45,12 @@ pub record Good (input : List ℕ) : Type 0 where
   pub ends : ended input ≡ true
   pub few : length (namesOf input) ≤ 65536
   pub fine : judgedFrom 0 (namesOf input) ≡ Fine
+
+-- "Its own room always suffices"
+abbrev pub ListedShort : Type 0
+ListedShort = (input : List ℕ) → length (listedOf input) ≤ 131072
+
+-- a listing is what is said of the writer's answer, where the directory has its length and there is room
+abbrev pub ListingWritten : Type 0
+ListingWritten = (rules : Rules) (input dir bytes : List ℕ) → length dir ≡ 2580 → totalOf (putsOf rules (namesOf input)) ≤ length bytes
+    → listingOf rules input ≡ answerText (namesOf input) (writeOf rules input dir bytes .answer)

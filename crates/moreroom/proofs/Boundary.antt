@@ -12,7 +12,7 @@ use Rattle.block.specs.Block.{starts, state}
 use Rattle.tables.specs.Tables.{keeping, entrySize, inRows, room, rowRoom}
 use Rattle.tables.proofs.Room.{room-holds, room-of}
 use Rattle.tables.proofs.Rows.{room-numbers, numbers-room}
-use Rattle.types.specs.Types.{Rules}
+use Rattle.numbering.specs.Types.{Rules}
 use Rattle.entries.specs.declared.Answer.{Answer}
 use Rattle.entries.specs.declared.Answer.the-variants as answer
 use Rattle.outcomes.specs.Outcomes.{Outcome}

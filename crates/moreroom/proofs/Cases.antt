@@ -9,7 +9,7 @@ use Rattle.base.specs.Every.{every}
 use Rattle.classes.specs.Classes.{isAllowed}
 use Rattle.spans.specs.Spans.{byteAt, four, fourAt, fourBytes}
 use Rattle.block.specs.Block.{spanOf, endOf, cursorOf, state}
-use Rattle.types.specs.Types.{numbersOf, typeOf, typeNumber}
+use Rattle.numbering.specs.Types.{numbersOf, typeOf, typeNumber}
 use Rattle.tokens.specs.Tokens.{bytesOf, kindOf, numberOf, widthOf, lengthOf, rowOf}
 use Rattle.tables.specs.Tables.{room, rowRoom, putRows, allNumbers}
 use Rattle.sources.specs.Source.{byteIn, fourIn}

@@ -14,7 +14,7 @@ use Rattle.block.specs.Block.{state}
 use Rattle.block.proofs.Laws.{Accepted, accepted}
 use Rattle.tables.specs.Tables.{Kept, keeping}
 use Rattle.kept.proofs.Later.{Later, later-same, later-then}
-use Rattle.types.specs.Types.{Rules}
+use Rattle.numbering.specs.Types.{Rules}
 use Rattle.words.specs.Words.{telling}
 use Rattle.claims.specs.Claims.{nameText}
 use Rattle.sources.specs.Source.{Source, source}

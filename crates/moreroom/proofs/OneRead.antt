@@ -18,7 +18,7 @@ use Rattle.tables.specs.Tables.{Kept, keeping, Table, entrySize, entryAt}
 use Rattle.kept.specs.Inside.{Counted, EntryInside}
 use Rattle.kept.proofs.Laws as judged
 use Rattle.kept.proofs.Frame.{entry-alike}
-use Rattle.types.specs.Types.{Rules}
+use Rattle.numbering.specs.Types.{Rules}
 use Rattle.sources.specs.Source.{Source, source, Earlier, earlier}
 use Rattle.repeats.specs.Sound.{Rows}
 use Rattle.repeats.proofs.Laws.{rows-none, rows-judged}
@@ -41,26 +41,18 @@ use Rattle.reads.proofs.Fitting.{name-rowed}
 use Rattle.demands.specs.Runs.{Lent, read}
 use Rattle.demands.proofs.Lemmas.Frames.{name-alike}
 use Rattle.demands.proofs.Lemmas.Keeping.{Sure}
-use Rattle.moreroom.specs.Fates.{fateOf}
+use Rattle.moreroom.specs.Fates.{fateOf, countOf, NamesSo, copyOf, CopiesSo}
 use Rattle.moreroom.specs.Runs.{Larger, SameUsed}
 use Rattle.moreroom.proofs.Fates.{Fares, alike, fits-so, fate-fares}
 
 -- Rules 3 and 4 end in the fate of a name
 
-countOf : Named → ℕ
-countOf (named x) = x .count
-countOf (refused r) = 0
-
-names-so : (s : Source) (m : Kept) (d : ℕ) (n : Named) → namedOf s m d n ≡ fateOf s m n (m .state .rows) (countOf n) d
+names-so : NamesSo
 unfolding namedOf fateOf keepOf countOf
 names-so s m d (named x) = rw (fits-so m x) refl
 names-so s m d (refused r) = refl
 
--- the name that a DUP copies
-abbrev copyOf : Source → List ℕ → Entry → Named
-copyOf s text e = named (draft (part text (e .start) (e .start + e .length)) [] 0 (headPast (s .cur) dupStream))
-
-copies-so : (s : Source) (m : Kept) (d : ℕ) (e : Entry) → dupOf s m d e ≡ fateOf s m (copyOf s (m .text) e) (e .first) (e .rows) d
+copies-so : CopiesSo
 unfolding dupOf fateOf keepOf
 copies-so s m d e = rw (fits-so m (draft (part (m .text) (e .start) (e .start + e .length)) [] 0 (headPast (s .cur) dupStream))) refl
 

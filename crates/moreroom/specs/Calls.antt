@@ -4,7 +4,7 @@ use mathlib.Core.Path.{_≡_}
 use mathlib.Core.List.{List}
 use lib.ListN.{length, replicate}
 use Rattle.tables.specs.Tables.{entrySize, inRows, room, rowRoom}
-use Rattle.types.specs.Types.{Rules}
+use Rattle.numbering.specs.Types.{Rules}
 use Rattle.codes.specs.Codes.{packed, stateIn}
 use Rattle.opencalls.specs.Calls.{openCall}
 use Rattle.readcalls.specs.Calls.{Reads, blockCall}

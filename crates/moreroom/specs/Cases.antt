@@ -3,7 +3,7 @@ use Prim.Native.Nat.{ℕ}
 use mathlib.Core.List.{List, [], _∷_, _++_}
 use Rattle.spans.specs.Spans.{fourBytes}
 use Rattle.block.specs.Streams.{typeStream, charStream, diffStream}
-use Rattle.types.specs.declared.TokenType.the-variants.{Char, End}
+use Rattle.numbering.specs.declared.TokenType.the-variants.{Char, End}
 use Rattle.entries.specs.declared.Answer.the-variants as answer
 use Rattle.demands.specs.Cases.{diffNumber, Case, Stream, stream, types, Told, readFrom, openIn, readIn}
 use Rattle.demands.specs.Bench.{refusedAt, passes}

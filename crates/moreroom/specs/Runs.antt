@@ -8,7 +8,7 @@ use Rattle.block.specs.declared.Refusal.the-variants as refusal
 use Rattle.block.specs.declared.Opened.the-variants as opened
 use Rattle.block.specs.Block.{openOf, opening}
 use Rattle.tables.specs.Tables.{Kept, entrySize, room, rowRoom, rowAt}
-use Rattle.types.specs.Types.{Rules}
+use Rattle.numbering.specs.Types.{Rules}
 use Rattle.entries.specs.declared.Answer.{Answer}
 use Rattle.entries.specs.declared.Answer.the-variants as answer
 use Rattle.outcomes.specs.Outcomes.{Outcome}

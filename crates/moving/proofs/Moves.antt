@@ -7,8 +7,8 @@ use lib.ListN.{length, set, getD, length-set}
 use Rattle.block.specs.Block.{spanOf, cursorOf}
 use Rattle.block.proofs.Laws.{span-stream, cursor-set-other}
 use Rattle.block.specs.Streams.{typeStream, stringStream, charStream, digits0Stream, dzlenStream, digitsStream, ddeltaStream, ddelta0Stream}
-use Rattle.types.specs.declared.TokenType.{TokenType}
-use Rattle.types.specs.declared.TokenType.the-variants as type
+use Rattle.numbering.specs.declared.TokenType.{TokenType}
+use Rattle.numbering.specs.declared.TokenType.the-variants as type
 use Rattle.moving.specs.Moves.{past, valuePast, Movable}
 
 -- the cursors of other positions stay

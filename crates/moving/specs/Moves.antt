@@ -5,8 +5,8 @@ use lib.ListN.{set}
 use mathlib.Core.Path.{_≡_}
 use Rattle.block.specs.Block.{spanOf, cursorOf}
 use Rattle.block.specs.Streams.{stringStream, charStream, digits0Stream, dzlenStream, digitsStream, ddeltaStream, ddelta0Stream}
-use Rattle.types.specs.declared.TokenType.{TokenType}
-use Rattle.types.specs.declared.TokenType.the-variants as type
+use Rattle.numbering.specs.declared.TokenType.{TokenType}
+use Rattle.numbering.specs.declared.TokenType.the-variants as type
 
 -- a cursor moved so many bytes on
 unfoldable pub past : List ℕ → ℕ → ℕ → List ℕ

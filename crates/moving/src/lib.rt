@@ -7,9 +7,9 @@ ghost use Rattle.moving.specs.Moves.{past, valuePast, Movable};
 ghost use Rattle.base.specs.Lent.{lent, left};
 ghost use Rattle.block.specs.Streams.{typeStream, digits0Stream, dzlenStream};
 use block::stream;
+use numbering::TokenType;
 use spans::Cursor;
 use spans::Position;
-use types::TokenType;
 
 // A cursor so many bytes on.
 pub fn move_on(cursors: &mut [u32], p: Position, stream: u32, n: u32)

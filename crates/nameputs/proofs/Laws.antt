@@ -6,7 +6,7 @@ use Rattle.spans.specs.Spans.{fourBytes}
 use Rattle.block.specs.Block.{spanOf}
 use Rattle.spans.specs.declared.Distance.{Distance}
 use Rattle.block.specs.Streams.{dupStream, diffStream}
-use Rattle.types.specs.Types.{Rules}
+use Rattle.numbering.specs.Types.{Rules}
 use Rattle.references.specs.declared.Reference.the-variants.{Dup, Diff}
 use Rattle.choices.specs.Choices.{choicesOf}
 use Rattle.references.specs.References.{referenceOf, leansOn}

@@ -9,7 +9,7 @@ use Rattle.base.proofs.Choice.{pick-true, pick-false, by-test}
 use Rattle.spans.specs.Spans.{fourBytes}
 use Rattle.block.proofs.Laws.{span-below}
 use Rattle.block.specs.Streams.{dupStream, diffStream}
-use Rattle.types.specs.Types.{Rules}
+use Rattle.numbering.specs.Types.{Rules}
 use Rattle.references.specs.declared.Reference.{Reference}
 use Rattle.references.specs.declared.Reference.the-variants.{Dup, Diff}
 use Rattle.choices.specs.Choices.{choicesFrom, choicesOf}
@@ -20,7 +20,8 @@ use Rattle.inputs.specs.declared.Judged.the-variants.{Fine}
 use Rattle.inputs.specs.Inputs.{judgedFrom, namesAfter, namesOf}
 use Rattle.tokenputs.specs.TokenPuts.{tokenPuts}
 use Rattle.nameputs.specs.NamePuts.{headPuts, referencePuts, namePuts, putsFrom, putsOf}
-use Rattle.inputs.proofs.Laws.{good-length, fine-first}
+use Rattle.nameputs.specs.Totals.{TotalMost}
+use Rattle.inputs.proofs.Laws.{good-holds, fine-first}
 use Rattle.tokenputs.proofs.Sizes.{tokens-inside, tokens-size}
 
 head-inside : (k i d : ℕ) → i ≤ 9 → Inside (headPuts k i d)
@@ -62,14 +63,14 @@ unfolding putsFrom
 puts-size rules n before [] e = omega arith
 puts-size rules n before (s ∷ ss) e =
     let f = fine-first n s ss e in
-    omega (arith, size-append (namePuts rules n before s) (putsFrom rules (n + 1) s ss), name-size rules n before s, good-length s (f .0), puts-size rules (n + 1) s ss (f .1))
+    omega (arith, size-append (namePuts rules n before s) (putsFrom rules (n + 1) s ss), name-size rules n before s, good-holds s (f .0) .1 .0, puts-size rules (n + 1) s ss (f .1))
 
 -- 65,536 good names put less than 2^32 bytes
 pub total-below : (rules : Rules) (names : List (List ℕ)) → judgedFrom 0 names ≡ Fine → length names ≤ 65536 → totalOf (putsOf rules names) < 2 ^ 32
 unfolding putsOf
 total-below rules names e h = omega (arith, size-total (putsFrom rules 0 [] names) (puts-inside rules 0 [] names), puts-size rules 0 [] names e)
 
--- six bytes for a byte of input suffice: for each of a name's, and for the byte 10 behind it the head and END
+-- six bytes for each of a name's, and for the byte 10 behind it the head and END
 names-size : (rules : Rules) (n : ℕ) (before so l : List ℕ) → sizeOf (putsFrom rules n before (namesAfter so l)) ≤ 6 * (length so + length l)
 unfolding putsFrom namesAfter
 names-size rules n before so [] = omega arith
@@ -88,6 +89,6 @@ names-size rules n before so (b ∷ l) = by-test (eqb b 10)
       names-size rules n before (so ++ b ∷ []) l,
     ))
 
-pub total-most : (rules : Rules) (input : List ℕ) → totalOf (putsOf rules (namesOf input)) ≤ 6 * length input
+pub total-most : TotalMost
 unfolding putsOf namesOf
 total-most rules input = omega (arith, size-total (putsFrom rules 0 [] (namesOf input)) (puts-inside rules 0 [] (namesOf input)), names-size rules 0 [] [] input)

@@ -6,7 +6,7 @@ use native.Mathlib.Omega.{arith}
 use lib.ListN.{length, drop}
 use Rattle.base.specs.Memory.{part}
 use Rattle.base.proofs.Lists.{part-none}
-use Rattle.types.specs.Types.{Rules}
+use Rattle.numbering.specs.Types.{Rules}
 use Rattle.laying.specs.declared.Pass.{Pass}
 use Rattle.laying.specs.Puts.{Put}
 use Rattle.laying.specs.Passes.{World, runOf, Roomy}

@@ -1,1 +1,2 @@
 pub mod NamePuts
+pub mod Totals

@@ -4,7 +4,7 @@ ghost use mathlib.Core.Bool.{true};
 ghost use Prim.Native.Nat.{_≤_, _<_, _+_};
 ghost use lib.ListN.{length};
 ghost use Rattle.classes.specs.Classes.{classTable};
-ghost use Rattle.types.specs.Types.{rulesOf};
+ghost use Rattle.numbering.specs.Types.{rulesOf};
 ghost use Rattle.laying.specs.Passes.{world, runOf, Roomy};
 ghost use Rattle.inputs.specs.Inputs.{namesOf, ended};
 ghost use Rattle.nameputs.specs.NamePuts.{headPuts, diffPuts, namePuts, putsOf};
@@ -52,7 +52,7 @@ fn put_diff(
     ensures { λ r. ⌜ world r (left directory) (left bytes) ≡ runOf pass (diffPuts (rulesOf set) (distance .0) (lent before) (lent name)) (world total (lent directory) (lent bytes)) ⌝ }
 {
     let kind = set.kind;
-    let number = types::diff_number(kind);
+    let number = numbering::diff_number(kind);
     let next = put_head(
         pass,
         total,
@@ -83,7 +83,7 @@ fn put_name(
     match references::reference_of(n, before, name) {
         Reference::Dup(d) => {
             let kind = set.kind;
-            let number = types::dup_number(kind);
+            let number = numbering::dup_number(kind);
             put_head(pass, total, directory, bytes, number, stream::DUP, d)
         }
         Reference::Diff(d) => put_diff(

@@ -9,7 +9,7 @@ use Rattle.base.proofs.Memory.{length-written}
 use Rattle.base.proofs.Below.{take-written}
 use Rattle.block.specs.Block.{spanOf, cursorOf}
 use Rattle.tokens.proofs.Laws.{bytes-same}
-use Rattle.types.specs.Types.{Rules}
+use Rattle.numbering.specs.Types.{Rules}
 use Rattle.tables.specs.declared.Row.{Row}
 use Rattle.tables.specs.Tables.{Table, rowRoom, rowAt, putRows}
 use Rattle.tables.proofs.Rows.{SameRows, below-put, room-put}

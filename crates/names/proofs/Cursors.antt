@@ -15,10 +15,10 @@ use Rattle.block.specs.Block.{spanOf, endOf, cursorOf}
 use Rattle.block.specs.Open.{Open}
 use Rattle.block.proofs.Laws.{span-below, span-stream, cursor-set-other, open-set}
 use Rattle.block.specs.Streams.{digits0Stream, dzlenStream}
-use Rattle.types.specs.declared.TokenType.{TokenType}
-use Rattle.types.specs.declared.TokenType.the-variants as type
+use Rattle.numbering.specs.declared.TokenType.{TokenType}
+use Rattle.numbering.specs.declared.TokenType.the-variants as type
 use Rattle.tokens.specs.declared.Token.{Token}
-use Rattle.types.specs.Types.{Rules, typeOf}
+use Rattle.numbering.specs.Types.{Rules, typeOf}
 use Rattle.sources.specs.Source.{Source, source, Earlier, byteIn, fourIn}
 use Rattle.sources.proofs.Cases.{Between}
 use Rattle.values.specs.declared.Step.the-variants as step

@@ -11,7 +11,7 @@ use Rattle.block.specs.Block.{spanOf, cursorOf}
 use Rattle.block.specs.Open.{Open}
 use Rattle.tokens.specs.Tokens.{bytesOf}
 use Rattle.tokens.specs.declared.Token.{Token}
-use Rattle.types.specs.Types.{Rules}
+use Rattle.numbering.specs.Types.{Rules}
 use Rattle.values.specs.declared.Step.{Step}
 use Rattle.values.specs.declared.Step.the-variants as step
 use Rattle.sources.specs.Source.{Source, source, Earlier, byteIn}

@@ -16,11 +16,11 @@ use Rattle.block.specs.Block.{spanOf, endOf, cursorOf}
 use Rattle.block.specs.Open.{Open}
 use Rattle.tables.specs.Tables.{Table, rowRoom, putRows}
 use Rattle.tables.proofs.Rows.{RowsBelow, put-none, put-next}
-use Rattle.types.specs.declared.TokenType.{TokenType}
+use Rattle.numbering.specs.declared.TokenType.{TokenType}
 use Rattle.tokens.specs.declared.Token.{Token}
 use Rattle.tokens.specs.Tokens.{bytesOf, lengthOf, rowOf}
 use Rattle.tokens.proofs.Laws.{length-bytes}
-use Rattle.types.specs.Types.{Rules}
+use Rattle.numbering.specs.Types.{Rules}
 use Rattle.values.specs.declared.Step.{Step}
 use Rattle.values.specs.declared.Step.the-variants as step
 use Rattle.sources.specs.Source.{Source, source, Earlier, earlier, byteIn}

@@ -5,7 +5,7 @@ use mathlib.Core.Path.{_≡_}
 use lib.ListN.{length}
 use Rattle.base.specs.Memory.{written}
 use Rattle.block.specs.Block.{spanOf}
-use Rattle.types.specs.declared.TokenType.{TokenType}
+use Rattle.numbering.specs.declared.TokenType.{TokenType}
 use Rattle.tokens.specs.declared.Token.{Token}
 use Rattle.tokens.specs.Tokens.{bytesOf, rowOf}
 use Rattle.names.specs.Names.{Draft, Named, named}

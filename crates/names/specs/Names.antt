@@ -11,10 +11,10 @@ use Rattle.spans.specs.declared.NextByte.the-variants as byte
 use Rattle.block.specs.Block.{spanOf}
 use Rattle.block.specs.Streams.{typeStream}
 use Rattle.tables.specs.declared.Row.{Row}
-use Rattle.types.specs.declared.TokenType.{TokenType}
-use Rattle.types.specs.declared.TokenType.the-variants as type
+use Rattle.numbering.specs.declared.TokenType.{TokenType}
+use Rattle.numbering.specs.declared.TokenType.the-variants as type
 use Rattle.tokens.specs.declared.Token.{Token}
-use Rattle.types.specs.Types.{Numbers, typeOf}
+use Rattle.numbering.specs.Types.{Numbers, typeOf}
 use Rattle.tokens.specs.Tokens.{bytesOf, rowOf}
 use Rattle.sources.specs.Source.{Source, Earlier, byteIn}
 use Rattle.values.specs.declared.Step.{Step}

@@ -3,7 +3,7 @@ ghost use mathlib.Core.Path.{_≡_};
 ghost use Prim.Native.Nat.{_≤_, _<_, _+_, _^_};
 ghost use lib.ListN.{length};
 ghost use Rattle.block.specs.Block.{spanOf, cursorOf};
-ghost use Rattle.types.specs.Types.{numbersOf};
+ghost use Rattle.numbering.specs.Types.{numbersOf};
 ghost use Rattle.tokens.specs.Tokens.{lengthOf};
 ghost use Rattle.tokens.specs.Inside.{Inside, KeptBelow};
 ghost use Rattle.names.specs.Names.{typeIn};
@@ -13,11 +13,11 @@ ghost use Rattle.base.specs.Lent.{lent};
 ghost use Rattle.block.specs.Streams.{typeStream};
 ghost use Rattle.tables.specs.Tables.{inRows, rowRoom};
 use block::Setting;
+use numbering::TokenType;
 use spans::Cursor;
 use spans::NextByte;
 use spans::Position;
 use tokens::Token;
-use types::TokenType;
 
 pub fn type_in(set: Setting, found: NextByte) -> TokenType
     ensures { λ r. ⌜ r ≡ typeIn (numbersOf (set .kind)) found ⌝ }
@@ -25,7 +25,7 @@ pub fn type_in(set: Setting, found: NextByte) -> TokenType
     match found {
         NextByte::Value(b, _) => {
             let kind = set.kind;
-            types::type_of(kind, b)
+            numbering::type_of(kind, b)
         }
         NextByte::Short => TokenType::Other,
     }

@@ -12,7 +12,7 @@ use Rattle.base.specs.Every.{Below}
 use Rattle.block.specs.declared.State.{State}
 use Rattle.block.specs.Open.{Open}
 use Rattle.block.specs.Streams.{diffStream}
-use Rattle.types.specs.Types.{Rules}
+use Rattle.numbering.specs.Types.{Rules}
 use Rattle.tables.specs.Tables.{entrySize, keeping, Table}
 use Rattle.kept.specs.Inside.{Counted}
 use Rattle.sources.specs.Source.{source, Earlier, earlier}

@@ -4,7 +4,7 @@ ghost use Prim.Native.Nat.{_+_, _≤_};
 ghost use Rattle.block.specs.Open.{Open};
 ghost use Rattle.tables.specs.Tables.{keeping, inRows};
 ghost use Rattle.kept.specs.Inside.{Counted};
-ghost use Rattle.types.specs.Types.{rulesOf};
+ghost use Rattle.numbering.specs.Types.{rulesOf};
 ghost use Rattle.sources.specs.Source.{source, earlier};
 ghost use Rattle.repeats.specs.Sound.{Rows};
 ghost use Rattle.repeating.specs.Repeats.{Repeats};

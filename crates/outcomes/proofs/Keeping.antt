@@ -7,7 +7,7 @@ use lib.ListN.{length}
 use Rattle.base.specs.Memory.{written}
 use Rattle.base.proofs.Choice.{took, left}
 use Rattle.block.specs.declared.State.{State}
-use Rattle.types.specs.Types.{Rules}
+use Rattle.numbering.specs.Types.{Rules}
 use Rattle.tables.specs.Tables.{keeping, entrySize, Table, putRows}
 use Rattle.sources.specs.Source.{source}
 use Rattle.names.specs.Names.{Draft}

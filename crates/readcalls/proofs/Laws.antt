@@ -3,7 +3,7 @@ use Prim.Native.Nat.{ℕ}
 use mathlib.Core.Path.{_≡_, ap, _∙_}
 use mathlib.Core.List.{List}
 use Rattle.block.specs.declared.State.{State}
-use Rattle.types.specs.Types.{Rules}
+use Rattle.numbering.specs.Types.{Rules}
 use Rattle.tables.specs.Tables.{keeping, Table}
 use Rattle.entries.specs.declared.Answer.{Answer}
 use Rattle.outcomes.specs.Outcomes.{Outcome, outcome}

@@ -3,7 +3,7 @@
 use Prim.Native.Nat.{ℕ}
 use mathlib.Core.List.{List}
 use Rattle.base.specs.Lent.{Buffer, lent, left}
-use Rattle.types.specs.Types.{Rules}
+use Rattle.numbering.specs.Types.{Rules}
 use Rattle.tables.specs.Tables.{keeping, Table, rowsLent, rowsLeft}
 use Rattle.sources.specs.Source.{source}
 use Rattle.outcomes.specs.Outcomes.{Outcome}

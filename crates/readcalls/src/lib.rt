@@ -1,7 +1,7 @@
 // A read and a whole block as C functions leave them: the answer one number, the state as four.
 // A refused read leaves what it may write as it was, the state too; a whole block keeps what was done before the refusal.
 ghost use mathlib.Core.Path.{_≡_};
-ghost use Rattle.types.specs.Types.{rulesOf};
+ghost use Rattle.numbering.specs.Types.{rulesOf};
 ghost use Rattle.readcalls.specs.Calls.{readsLeft, readCallLent, blockCallLent};
 use block::Setting;
 

@@ -14,7 +14,7 @@ use Rattle.block.specs.declared.Verdict.the-variants.{Unsound, Outside, Inside}
 use Rattle.block.specs.Block.{opening, openOf, verdictOf}
 use Rattle.block.specs.Open.{Open}
 use Rattle.block.proofs.Laws.{judged-open, accepted, accepted-open, verdict-unsound, verdict-outside, verdict-inside}
-use Rattle.types.specs.Types.{Rules}
+use Rattle.numbering.specs.Types.{Rules}
 use Rattle.tables.specs.Tables.{Kept, keeping, Table}
 use Rattle.kept.specs.Judgement.{counts}
 use Rattle.kept.specs.Inside.{Counted}

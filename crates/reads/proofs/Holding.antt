@@ -20,7 +20,7 @@ use Rattle.block.specs.Block.{allAtEnd}
 use Rattle.block.specs.Open.{Open}
 use Rattle.block.proofs.Laws.{open-sound, open-inside}
 use Rattle.block.specs.Streams.{dupStream, diffStream}
-use Rattle.types.specs.Types.{Rules}
+use Rattle.numbering.specs.Types.{Rules}
 use Rattle.tables.specs.declared.Entry.{Entry}
 use Rattle.tables.specs.declared.Row.{Row}
 use Rattle.tables.specs.Tables.{entrySize, Kept, keeping, entryAt, rowAt, Table, putRows, rowRoom}

@@ -9,7 +9,7 @@ use Rattle.base.specs.Choice.{pick, both}
 use Rattle.base.proofs.Choice.{both-true, by-test, pick-true, pick-false, never}
 use Rattle.block.specs.declared.State.{State}
 use Rattle.block.specs.Open.{Open}
-use Rattle.types.specs.Types.{Rules}
+use Rattle.numbering.specs.Types.{Rules}
 use Rattle.tables.specs.Tables.{Kept, keeping, Table}
 use Rattle.kept.specs.Inside.{Counted}
 use Rattle.sources.specs.Source.{source}

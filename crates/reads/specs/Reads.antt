@@ -5,7 +5,7 @@ use mathlib.Core.List.{List}
 use lib.ListN.{length}
 use Rattle.base.specs.Choice.{pick}
 use Rattle.block.specs.Block.{sound, allInside}
-use Rattle.types.specs.Types.{Rules}
+use Rattle.numbering.specs.Types.{Rules}
 use Rattle.tables.specs.Tables.{Kept}
 use Rattle.kept.specs.Judgement.{counts}
 use Rattle.sources.specs.Source.{Source, source}

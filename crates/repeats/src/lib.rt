@@ -7,7 +7,7 @@ ghost use Rattle.block.specs.Open.{Open};
 ghost use Rattle.tables.specs.Tables.{rowAt, inRows, rowRoom, rowsLent};
 ghost use Rattle.kept.specs.Inside.{RowInside};
 ghost use Rattle.sources.specs.Source.{earlier, source};
-ghost use Rattle.types.specs.Types.{Rules};
+ghost use Rattle.numbering.specs.Types.{Rules};
 ghost use Rattle.repeats.specs.Repeats.{tokenOf, matchOf, deltaAt, delta0At, matchAt};
 ghost use Rattle.repeats.specs.Sound.{Rows, reach};
 ghost use Rattle.base.specs.Lent.{lent};

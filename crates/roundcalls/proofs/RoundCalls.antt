@@ -34,7 +34,7 @@ use Rattle.roundtrip.specs.Back.{Roomy, InputBack, readTimes, OneByOne}
 use Rattle.roundtrip.specs.Demand.{Begins}
 use Rattle.roundtrip.proofs.RoundTrip.{reads-back-written, reads-back-amply, reads-one-by-one, opens-written}
 use Rattle.roundcalls.specs.Demand.{Wrote, WritesInOrder, TellsTotals, BlockBack, BlockReadsBack, BlockReadsBackAmply, CallsBack, CallsReadBack}
-use Rattle.types.specs.Types.{Rules}
+use Rattle.numbering.specs.Types.{Rules}
 
 -- writing that answers code 0 has written
 code-0 : (rules : Rules) (input dir bytes totals : List ℕ) (v : ℕ) (w : Writing) → WriteCase rules input dir bytes w → writesOf totals w .number ≡ packed 0 v

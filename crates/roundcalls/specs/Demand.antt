@@ -18,7 +18,7 @@ use Rattle.demands.specs.Refusals.{Countable, AllGood}
 use Rattle.demands.specs.Boundary.{begun, lentFrom, callsOn}
 use Rattle.roundtrip.specs.Back.{Roomy, NameIs, InputBack}
 use Rattle.roundtrip.specs.Demand.{Begins}
-use Rattle.types.specs.Types.{Rules}
+use Rattle.numbering.specs.Types.{Rules}
 
 -- aq_write answered code 0, and its totals are so many names and so many bytes
 pub record Wrote (w : Writes) (n total : ℕ) : Type 0 where

@@ -19,7 +19,7 @@ use Rattle.roundtrip.specs.Room.{listed, textWanted, rowsAdded, rowsFor}
 use Rattle.roundtrip.specs.Back.{NameIs, RowsAre, readTimes}
 use Rattle.roundtrip.proofs.Keeping.{stays-name, stays-rows}
 use Rattle.roundtrip.proofs.Reading.{Reached, ReadBack, done-back, read-back}
-use Rattle.types.specs.Types.{Rules}
+use Rattle.numbering.specs.Types.{Rules}
 
 -- kept name i and those after it are these
 unfoldable pub NamesAre : Kept → ℕ → List (List ℕ) → Type 0

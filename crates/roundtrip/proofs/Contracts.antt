@@ -1,29 +1,25 @@
 -- Demand 2 of the code: whatever meets the contract of writing and is accepted, reads that meet their contracts give back, a whole block or one name a call,
 -- from any bytes that begin with the total that was written.
-use Prim.Native.Nat.{ℕ, zero, suc, _+_, _<_}
+use Prim.Native.Nat.{ℕ, zero, suc, _+_}
 use mathlib.Core.Path.{_≡_, refl, sym, ap, _∙_, subst}
 use mathlib.Core.List.{List, []}
 use native.Mathlib.Numerals.{add-one}
 use lib.ListN.{length, getD, take}
 use Rattle.block.specs.Block.{state, starts}
-use Rattle.tables.specs.Tables.{Kept, keeping, Table}
+use Rattle.tables.specs.Tables.{keeping}
 use Rattle.sources.specs.Source.{source}
 use Rattle.entries.specs.declared.Answer.the-variants as answer
 use Rattle.outcomes.specs.Outcomes.{Outcome, outcome}
 use Rattle.reads.specs.Reads.{readOf}
 use Rattle.reading.specs.Blocks.{blockOf}
-use Rattle.writing.specs.declared.WriteAnswer.the-variants.{Written}
 use Rattle.inputs.specs.Inputs.{namesOf}
-use Rattle.writing.specs.Writes.{Writing, writing, writeOf}
-use Rattle.roundtrip.specs.Back.{Roomy, NameIs, InputBack, readTimes, OneByOne}
-use Rattle.roundtrip.specs.Demand.{Begins}
+use Rattle.writing.specs.Writes.{Writing, writeOf}
+use Rattle.roundtrip.specs.Back.{NameIs, InputBack, readTimes, OneByOne}
+use Rattle.roundtrip.specs.Demand.{Begins, CodeReadsBack, CodeReadsOneByOne}
 use Rattle.roundtrip.proofs.RoundTrip.{reads-back-written, reads-one-by-one}
-use Rattle.types.specs.Types.{Rules}
+use Rattle.numbering.specs.Types.{Rules}
 
-pub code-reads-back : (rules : Rules) (input dir bytes d w : List ℕ) (n total : ℕ) → writing (Written n total) d w ≡ writeOf rules input dir bytes
-    → (b : List ℕ) → Begins total w b
-    → (cur : List ℕ) (m : Kept) → length cur ≡ 1290 → Roomy (namesOf input) m
-    → (o : Outcome) → o ≡ blockOf (source rules b d cur) m n → InputBack input o
+pub code-reads-back : CodeReadsBack
 code-reads-back rules input dir bytes d w n total e b s cur m h r o f =
     let same : Begins total (writeOf rules input dir bytes .bytes) b = s ∙ ap (λ (x : Writing). take total (x .bytes)) e in
     let whole = reads-back-written rules input dir bytes n total (ap (λ (x : Writing). x .answer) (sym e)) b same cur m h r in
@@ -37,14 +33,7 @@ unfolding readTimes
 seen-times rules bytes dir zero o f = refl
 seen-times rules bytes dir (suc n) o f = seen-times rules bytes dir n (λ i. o (suc i)) (λ i. f (suc i)) ∙ ap (readTimes rules bytes dir n) (f 0)
 
--- and reads of one name a call give them back: read i, from 0 on, answers i and keeps name i, and one more read is done
-pub code-reads-one-by-one : (rules : Rules) (input dir bytes d w : List ℕ) (n total : ℕ) → writing (Written n total) d w ≡ writeOf rules input dir bytes
-    → (b : List ℕ) → Begins total w b
-    → (text table : List ℕ) (rows : Table) → Roomy (namesOf input) (keeping (state n 0 0 0) text table rows)
-    → (o : ℕ → Outcome) → o 0 ≡ outcome answer.Done (starts d) (keeping (state n 0 0 0) text table rows)
-    → ((i : ℕ) → o (i + 1) ≡ readOf (source rules b d (o i .cur)) (o i .kept))
-    → ((i : ℕ) → i < length (namesOf input) → (o (i + 1) .answer ≡ answer.Kept i) × NameIs (o (i + 1) .kept) i (getD (namesOf input) i []))
-    × (o (length (namesOf input) + 1) .answer ≡ answer.Done)
+pub code-reads-one-by-one : CodeReadsOneByOne
 code-reads-one-by-one rules input dir bytes d w n total e b s text table rows r o z f =
     let same : Begins total (writeOf rules input dir bytes .bytes) b = s ∙ ap (λ (x : Writing). take total (x .bytes)) e in
     let begun : List ℕ → Outcome = λ x. outcome answer.Done (starts x) (keeping (state n 0 0 0) text table rows) in

@@ -14,7 +14,7 @@ use Rattle.spans.proofs.Laws.{byte-back, four-back, text-back}
 use Rattle.block.specs.Block.{spanOf, endOf, cursorOf}
 use Rattle.sources.specs.Source.{source, byteIn, fourIn, textIn}
 use Rattle.roundtrip.proofs.Eating.{First}
-use Rattle.types.specs.Types.{Rules}
+use Rattle.numbering.specs.Types.{Rules}
 
 module _ (rules : Rules) (bytes dir cur : List ℕ) (p i : ℕ) where
   pub byte-first : (b : ℕ) → First bytes dir cur (spanOf p i) (b ∷ []) → byteIn (source rules bytes dir cur) p i ≡ byte.Value b (cursor (cursorOf cur (spanOf p i) + 1))

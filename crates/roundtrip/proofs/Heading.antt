@@ -11,7 +11,7 @@ use Rattle.spans.specs.Spans.{cursor, fourBytes}
 use Rattle.block.specs.Block.{spanOf, cursorOf}
 use Rattle.block.proofs.Laws.{span-below, span-stream}
 use Rattle.block.specs.Streams.{typeStream, dupStream, diffStream}
-use Rattle.types.specs.Types.{Rules}
+use Rattle.numbering.specs.Types.{Rules}
 use Rattle.sources.specs.Source.{source, byteIn, fourIn}
 use Rattle.moving.specs.Moves.{past}
 use Rattle.distances.specs.declared.Head.the-variants as head
@@ -20,7 +20,7 @@ use Rattle.heads.specs.Heads.{typedHead, headOf, headPast}
 use Rattle.laying.specs.Puts.{Put, put}
 use Rattle.roundtrip.proofs.Eating.{Left, first, eat, first-other}
 use Rattle.roundtrip.proofs.Fronts.{byte-first, four-first}
-use Rattle.types.proofs.Laws.{dup-not-diff}
+use Rattle.numbering.proofs.Laws.{dup-not-diff}
 
 module _ (rules : Rules) (bytes dir cur : List ℕ) (t i d : ℕ) (low : 1 ≤ i) (high : i ≤ 9) (small : d < 2 ^ 32) (rest : List Put)
     (l : Left bytes dir cur (put (spanOf 0 0) (t ∷ []) ∷ put (spanOf 0 i) (fourBytes d) ∷ rest)) where

@@ -4,25 +4,21 @@ use mathlib.Core.Path.{_≡_, refl, sym, ap, _∙_}
 use mathlib.Core.Bool.{true, false}
 use mathlib.Core.List.{List, [], _∷_, _++_, append-assoc, append-nil}
 use native.Mathlib.Omega.{arith}
-use borrow.Author.Tests.{leb-true, eqb-true, eq-eqb, ne-eqb}
-use lib.Dec.{leb, eqb}
+use borrow.Author.Tests.{eqb-true, eq-eqb, ne-eqb}
+use lib.Dec.{eqb}
 use lib.ListN.{length, getD, length-append}
 use Rattle.comparing.specs.Same.{same}
-use Rattle.base.proofs.Choice.{pick-true, pick-false, both-true, by-test, pick-holds}
-use Rattle.classes.specs.Classes.{allAllowed}
+use Rattle.base.proofs.Choice.{pick-true, pick-false, by-test, pick-holds}
 use Rattle.references.specs.References.{anew}
 use Rattle.inputs.specs.declared.Judged.the-variants.{Fine, Bad}
 use Rattle.inputs.specs.Inputs.{namesAfter, namesOf, ended, goodName, judgedFrom}
+use Rattle.inputs.proofs.Laws.{good-holds}
 use Rattle.roundtrip.specs.Room.{listed, textWanted, rowsAdded, rowsFor, rowsWanted}
 use Rattle.roundtrip.proofs.Spelling.{Good, tokens-most}
 use Rattle.roundtrip.proofs.Reading.{AllGood}
 
 pub good-is : (s : List ℕ) → goodName s ≡ true → Good s
-unfolding goodName
-good-is s e =
-    let a = both-true (leb 1 (length s)) _ e in
-    let b = both-true (leb (length s) 254) (allAllowed s) (a .1) in
-    record { some = leb-true _ _ (a .0); short = leb-true _ _ (b .0); allowed = b .1 }
+good-is s e = let g = good-holds s e in record { some = g .0; short = g .1 .0; allowed = g .1 .1 }
 
 pub all-good : (names : List (List ℕ)) (n : ℕ) → judgedFrom n names ≡ Fine → AllGood names
 unfolding judgedFrom AllGood

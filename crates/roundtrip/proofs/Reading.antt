@@ -24,7 +24,7 @@ use Rattle.tables.specs.Tables.{entrySize, Kept, entryAt, Table, rowRoom}
 use Rattle.kept.proofs.Later.{Later}
 use Rattle.kept.specs.Judgement.{counts}
 use Rattle.kept.specs.Inside.{Counted}
-use Rattle.types.specs.Types.{Rules}
+use Rattle.numbering.specs.Types.{Rules}
 use Rattle.sources.specs.Source.{Source, source, Earlier, earlier}
 use Rattle.names.specs.Names.{Draft, draft, nameOf}
 use Rattle.distances.specs.declared.Head.{Head}

@@ -19,8 +19,8 @@ use Rattle.block.specs.Block.{spanOf, cursorOf}
 use Rattle.block.proofs.Laws.{span-below, span-stream}
 use Rattle.block.specs.Streams.{stringStream, charStream, digits0Stream, dzlenStream, digitsStream, ddeltaStream, ddelta0Stream}
 use Rattle.tokens.specs.declared.Padded.{Padded}
-use Rattle.types.specs.declared.TokenType.{TokenType}
-use Rattle.types.specs.declared.TokenType.the-variants as type
+use Rattle.numbering.specs.declared.TokenType.{TokenType}
+use Rattle.numbering.specs.declared.TokenType.the-variants as type
 use Rattle.tokens.specs.declared.Token.{Token}
 use Rattle.tokens.specs.declared.Token.the-variants as token
 use Rattle.tokens.specs.Tokens.{bytesOf, kindOf, numberOf, widthOf, lengthOf, rowOf}
@@ -43,7 +43,7 @@ use Rattle.roundtrip.proofs.Eating.{Left, First, first, eat, first-othe
 use Rattle.roundtrip.proofs.Fronts.{byte-first, four-first, text-first, text-there}
 use Rattle.roundtrip.proofs.Pieces.{Small}
 use Rattle.roundtrip.proofs.Leaning.{RowIs}
-use Rattle.types.specs.Types.{Rules}
+use Rattle.numbering.specs.Types.{Rules}
 
 -- a token that is token x of s
 pub record Same (bytes text : List ℕ) (s : List ℕ) (x : Piece) (t : Token) : Type 0 where

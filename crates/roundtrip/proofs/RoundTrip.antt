@@ -38,13 +38,13 @@ use Rattle.writing.specs.Writes.{Writing, writing, countable, laidOf, judgedOf,
 use Rattle.roundtrip.specs.Room.{listed, textWanted, rowsFor, rowsWanted}
 use Rattle.roundtrip.specs.Back.{Roomy, NameIs, RowsAre, Back, InputBack, readTimes, OneByOne}
 use Rattle.roundtrip.specs.Layout.{LaidOut}
-use Rattle.roundtrip.specs.Accepted.{Accepted}
-use Rattle.roundtrip.specs.Demand.{Begins, ReadsBack, ReadsBackAmply, ReadsOneByOne, Opens, LaysOut, Nothing}
+use Rattle.roundtrip.specs.Accepted.{Accepted, AcceptsInOrder}
+use Rattle.roundtrip.specs.Demand.{Begins, BeginsLeft, BeginsCut, ReadsBack, ReadsBackAmply, ReadsOneByOne, Opens, LaysOut, Nothing}
 use Rattle.roundtrip.proofs.Reading.{Reached}
 use Rattle.roundtrip.proofs.Blocks.{names-at, Whole, reads-back, calls-back, calls-done}
 use Rattle.roundtrip.proofs.Spans.{directory-length, start-is, end-is, span-size, ends-within, laid, laid-out, nothing-put}
 use Rattle.roundtrip.proofs.Inputs.{all-good, listed-length, listed-back, text-most, rows-most}
-use Rattle.types.specs.Types.{Rules}
+use Rattle.numbering.specs.Types.{Rules}
 
 -- good names, few enough, and bytes that begin with what they put, written where there was room
 module _ (rules : Rules) (names : List (List ℕ)) (fine : judgedFrom 0 names ≡ Fine) (few : length names ≤ 65536) (bytes : List ℕ) (room : totalOf (putsOf rules names) ≤ length bytes)
@@ -230,9 +230,7 @@ module _ (rules : Rules) (input dir bytes : List ℕ) (n total : ℕ) (e : write
         rw (accepted .is, accepted .names)
         (calls-names rules names (accepted .fine) (accepted .few) bytes (accepted .room) b begins text table rows (record { text = r .text; entries = r .entries; rows = r .rows }))
 
--- and what is in order is accepted
-pub accepts : (rules : Rules) (input dir bytes : List ℕ) → length dir ≡ 2580 → countable input ≡ true → judgedFrom 0 (namesOf input) ≡ Fine → totalOf (putsOf rules (namesOf input)) ≤ length bytes
-    → writeOf rules input dir bytes .answer ≡ Written (length (namesOf input)) (totalOf (putsOf rules (namesOf input)))
+pub accepts : AcceptsInOrder
 unfolding writeOf judgedOf laidOf
 accepts rules input dir bytes d c f r =
     ap (λ (w : Writing). w .answer)
@@ -252,12 +250,10 @@ reads-one-by-one rules input dir bytes n total e b s text table rows r = written
 pub opens-written : Opens
 opens-written rules input dir bytes n total e b s cur t = written-opens rules input dir bytes n total e b s cur t
 
--- all that writing left begins so
-pub begins-left : (total : ℕ) (all : List ℕ) → Begins total all all
+pub begins-left : BeginsLeft
 begins-left total all = refl
 
--- and so do the bytes cut to the total
-pub begins-cut : (total : ℕ) (all : List ℕ) → Begins total all (take total all)
+pub begins-cut : BeginsCut
 begins-cut total all = take-take total total all (omega arith)
 
 pub lays-out : LaysOut

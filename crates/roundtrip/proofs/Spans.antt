@@ -17,7 +17,7 @@ use Rattle.laying.proofs.Tables.{length-table, end-table}
 use Rattle.nameputs.specs.NamePuts.{putsFrom, putsOf}
 use Rattle.roundtrip.specs.Layout.{LaidOut}
 use Rattle.roundtrip.proofs.Eating.{Left, content-none}
-use Rattle.types.specs.Types.{Rules}
+use Rattle.numbering.specs.Types.{Rules}
 
 -- a start read from a table of starts and ends
 module _ (a b : ℕ → ℕ) where

@@ -41,7 +41,7 @@ use Rattle.roundtrip.proofs.Eating.{Left, eaten, left-eaten, eaten-late
 use Rattle.roundtrip.proofs.Pieces.{piece-cut, rows-more, rows-out, count-more, count-out, count-most, length-rows}
 use Rattle.roundtrip.proofs.Leaning.{RowIs, Here, choice-right}
 use Rattle.roundtrip.proofs.Stepping.{choice-between, Resolved, resolved, ended-back, ended-past}
-use Rattle.types.specs.Types.{Rules}
+use Rattle.numbering.specs.Types.{Rules}
 
 -- what SAM allows as a name, as facts
 pub record Good (s : List ℕ) : Type 0 where

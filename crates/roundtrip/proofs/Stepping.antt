@@ -11,10 +11,10 @@ use Rattle.spans.specs.Spans.{cursor}
 use Rattle.block.specs.Block.{spanOf, cursorOf}
 use Rattle.block.proofs.Laws.{span-below}
 use Rattle.block.specs.Streams.{typeStream, ddeltaStream, ddelta0Stream}
-use Rattle.types.specs.declared.TokenType.{TokenType}
-use Rattle.types.specs.declared.TokenType.the-variants as type
+use Rattle.numbering.specs.declared.TokenType.{TokenType}
+use Rattle.numbering.specs.declared.TokenType.the-variants as type
 use Rattle.tokens.specs.declared.Token.{Token}
-use Rattle.types.proofs.Laws.{type-back}
+use Rattle.numbering.proofs.Laws.{type-back}
 use Rattle.values.specs.declared.Step.the-variants as step
 use Rattle.sources.specs.Source.{source, Earlier, byteIn}
 use Rattle.repeats.specs.Repeats.{rowHere, matchAt}
@@ -29,7 +29,7 @@ use Rattle.pieces.specs.declared.Piece.{Piece}
 use Rattle.pieces.specs.declared.Piece.the-variants.{String, Char, Digits, Digits0}
 use Rattle.choices.specs.declared.Choice.{Choice}
 use Rattle.choices.specs.declared.Choice.the-variants.{Itself, Delta, Delta0, Match, End}
-use Rattle.types.specs.Types.{Rules, typeNumber}
+use Rattle.numbering.specs.Types.{Rules, typeNumber}
 use Rattle.tokenputs.specs.TokenPuts.{pieceType, choiceType, choicePuts}
 use Rattle.valueputs.specs.ValuePuts.{piecePuts, valuePuts}
 use Rattle.roundtrip.proofs.Eating.{Left, first, eat, eaten, Between}

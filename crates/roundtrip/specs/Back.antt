@@ -13,7 +13,7 @@ use Rattle.reads.specs.Reads.{readOf}
 use Rattle.inputs.specs.Inputs.{namesOf}
 use Rattle.roundtrip.specs.Rows.{splitRows, tokensIn}
 use Rattle.roundtrip.specs.Room.{listed, textWanted, rowsWanted}
-use Rattle.types.specs.Types.{Rules}
+use Rattle.numbering.specs.Types.{Rules}
 
 -- there is room for names: their text with the byte 10 of each, an entry a name, and a row for each that they add
 pub record Roomy (names : List (List ℕ)) (m : Kept) : Type 0 where

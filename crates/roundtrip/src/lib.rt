@@ -1,2 +1,3 @@
 // Reading what was written gives the same names back: theorems over the definitions of both, and no function.
-// The statements are in specs/Demand, their proofs end in proofs/RoundTrip.
+// The statements are in specs/Demand and specs/Accepted, their proofs end in proofs/RoundTrip and, of the code, in
+// proofs/Contracts.

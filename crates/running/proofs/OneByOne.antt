@@ -15,10 +15,10 @@ use Rattle.spans.specs.declared.Cursor.{Cursor}
 use Rattle.spans.specs.declared.NextByte.{NextByte}
 use Rattle.block.specs.Block.{spanOf, cursorOf}
 use Rattle.block.specs.Open.{Open}
-use Rattle.types.specs.declared.TokenType.the-variants as type
+use Rattle.numbering.specs.declared.TokenType.the-variants as type
 use Rattle.tokens.specs.declared.Token.{Token}
 use Rattle.tokens.specs.Tokens.{bytesOf, rowOf}
-use Rattle.types.specs.Types.{Rules}
+use Rattle.numbering.specs.Types.{Rules}
 use Rattle.tables.specs.declared.Row.{Row}
 use Rattle.tables.specs.Tables.{Table, rowAt}
 use Rattle.values.specs.declared.Step.the-variants as step

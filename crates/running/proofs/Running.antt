@@ -15,7 +15,7 @@ use Rattle.base.proofs.Numbers.{by-order}
 use Rattle.base.specs.Every.{Below}
 use Rattle.spans.specs.declared.Position.{Position}
 use Rattle.block.specs.Block.{spanOf, cursorOf}
-use Rattle.types.specs.Types.{Rules}
+use Rattle.numbering.specs.Types.{Rules}
 use Rattle.base.proofs.Below.{take-written}
 use Rattle.tables.specs.Tables.{Table, rowRoom, rowAt, putRows}
 use Rattle.kept.specs.Inside.{RowInside}

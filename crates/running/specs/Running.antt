@@ -10,7 +10,7 @@ use Rattle.base.specs.Choice.{pick, both}
 use Rattle.base.specs.Lent.{Buffer}
 use Rattle.spans.specs.declared.Position.{Position}
 use Rattle.block.specs.declared.Setting.{Setting}
-use Rattle.types.specs.Types.{rulesOf}
+use Rattle.numbering.specs.Types.{rulesOf}
 use Rattle.sources.specs.Source.{Source, source, Earlier, earlier}
 use Rattle.tables.specs.Tables.{Table, inRows, rowRoom}
 use Rattle.names.specs.Keeps.{Memory}

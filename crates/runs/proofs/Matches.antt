@@ -8,9 +8,9 @@ use Rattle.base.proofs.Numbers.{here-or-later}
 use Rattle.spans.specs.declared.Cursor.{Cursor}
 use Rattle.spans.specs.declared.NextByte.{NextByte}
 use Rattle.spans.specs.declared.NextByte.the-variants as byte
-use Rattle.types.specs.declared.TokenType.{TokenType}
-use Rattle.types.specs.declared.TokenType.the-variants as type
-use Rattle.types.specs.Types.{Numbers, typeOf}
+use Rattle.numbering.specs.declared.TokenType.{TokenType}
+use Rattle.numbering.specs.declared.TokenType.the-variants as type
+use Rattle.numbering.specs.Types.{Numbers, typeOf}
 use Rattle.tables.specs.Tables.{Table, rowAt}
 use Rattle.sources.specs.Source.{Source}
 use Rattle.names.specs.Names.{typeIn, typeAt}

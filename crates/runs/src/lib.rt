@@ -10,8 +10,8 @@ ghost use Rattle.runs.specs.Runs.{isMatch, runEnd, textLength};
 use block::Setting;
 use block::stream;
 use names::keeping;
+use numbering::TokenType;
 use spans::Position;
-use types::TokenType;
 
 // How far a run of MATCHes may go.
 pub fn last(known: bool, count: u32) -> Position

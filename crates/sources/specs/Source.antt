@@ -7,7 +7,7 @@ use Rattle.spans.specs.declared.NextText.{NextText}
 use Rattle.spans.specs.Spans.{byteAt, fourAt, textAt}
 use Rattle.block.specs.Block.{spanOf, endOf, cursorOf}
 use Rattle.block.specs.declared.Setting.{Setting}
-use Rattle.types.specs.Types.{Rules, rulesOf}
+use Rattle.numbering.specs.Types.{Rules, rulesOf}
 use Rattle.base.specs.Lent.{Buffer, lent}
 use Rattle.tables.specs.Tables.{Table}
 

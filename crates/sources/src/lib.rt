@@ -3,7 +3,7 @@ ghost use mathlib.Core.Path.{_≡_};
 ghost use Prim.Native.Nat.{_≤_};
 ghost use Rattle.block.specs.Open.{Open};
 ghost use Rattle.sources.specs.Source.{byteIn, fourIn, textIn, source};
-ghost use Rattle.types.specs.Types.{Rules};
+ghost use Rattle.numbering.specs.Types.{Rules};
 ghost use Rattle.base.specs.Lent.{lent};
 use spans::NextByte;
 use spans::NextFour;

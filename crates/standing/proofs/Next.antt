@@ -25,13 +25,13 @@ use Rattle.tables.specs.Tables.{Kept, entryAt}
 use Rattle.kept.specs.Inside.{Counted}
 use Rattle.kept.specs.Inside as inside
 use Rattle.kept.proofs.Laws as judged
-use Rattle.types.specs.Types.{Rules}
+use Rattle.numbering.specs.Types.{Rules}
 use Rattle.sources.specs.Source.{Source, source, Earlier, byteIn, fourIn}
 use Rattle.moving.specs.Moves.{past}
 use Rattle.moving.proofs.Moves.{length-past}
 use Rattle.names.specs.Names.{Draft, draft, Named}
 use Rattle.entries.specs.declared.Answer.the-variants as answer
-use Rattle.outcomes.specs.Outcomes.{Outcome, outcome, plain, atName}
+use Rattle.outcomes.specs.Outcomes.{Outcome, outcome, plain}
 use Rattle.outcomes.specs.Keeping.{roomFor, kept, keepOf}
 use Rattle.earlier.specs.Back.{rowsOf, none, entryBack}
 use Rattle.earlier.specs.Fits.{AllFit}
@@ -49,19 +49,13 @@ use Rattle.words.specs.Values.{Value, Name, nobody}
 use Rattle.words.specs.Words as words
 use Rattle.words.specs.Words.{tokensFrom, back, copy, made, headed}
 use Rattle.standing.specs.Stands.{Stands, Left, Tells}
+use Rattle.standing.specs.Next.{ReadSaid, gives, full, keeps, NextSaid, EndsSaid}
 use Rattle.standing.proofs.Fronts.{byte-front, four-front}
 use Rattle.standing.proofs.Shown.{RowsTell}
 use Rattle.standing.proofs.Shown as shown
 use Rattle.standing.proofs.Spans.{left-set, other-span}
 use Rattle.standing.proofs.Walks.{rowsFor, NameSaid, refuses, makes, name-said}
 use Rattle.standing.proofs.Names.{rows-told, stands-later, later, own-stands, same-stands}
-
--- a read and what the words say is next
-pub data ReadSaid (rules : Rules) (bytes dir cur : List ℕ) (m : Kept) (before : List Name) : Outcome → Said Name → Type 0 where
-  gives : (r : ℕ) → ReadSaid rules bytes dir cur m before (atName (source rules bytes dir cur) m r) (refused r)
-  full : (n : Name) (spans : Spans) → ReadSaid rules bytes dir cur m before (atName (source rules bytes dir cur) m 9) (said n spans)
-  keeps : (o : Outcome) (n : Name) (spans : Spans) → o .answer ≡ answer.Kept (m .state .names) → Tells bytes dir (o .cur) (o .kept) (n ∷ before) spans
-      → ReadSaid rules bytes dir cur m before o (said n spans)
 
 module _ (rules : Rules) (bytes dir cur : List ℕ) (m : Kept) (before : List Name) (spans : Spans) (o : Open bytes dir cur) (c : Counted m) (fits : AllFit m)
     (t : Tells bytes dir cur m before spans) where
@@ -220,10 +214,6 @@ module _ (rules : Rules) (bytes dir cur : List ℕ) (m : Kept) (before : List Na
       (λ (n : NextByte) (f : Front ℕ). Says (headedOf s m (typedHead s k n)) (then (taken spans (spanOf 0 0) f) (headed rules before)))
       (cursorOf cur (spanOf 0 0)) (λ b a. head-said b a) (refused-said 2))
 
-  pub next-said : (k ≡ m .state .count → ⊥) → Says (nextOf s m) (words.next rules before spans)
-  unfolding nextOf
-  next-said n = rw (pick-false _ _ (ne-eqb _ _ n)) name-next
-
   -- with all names read, every span at its end or not
   span-empty : (j : ℕ) → j < 1290 → words.isEmpty (spans j) ≡ atEnd dir cur j
   unfolding words.isEmpty atEnd
@@ -236,6 +226,12 @@ module _ (rules : Rules) (bytes dir cur : List ℕ) (m : Kept) (before : List Na
   unfolding allAtEnd
   all-empty = every-same (λ (j : ℕ). words.isEmpty (spans j)) (atEnd dir cur) 1290 0 (λ j a b. span-empty j (omega (arith, b)))
 
-  pub ends-said : k ≡ m .state .count → nextOf s m ≡ pick (words.allEmpty spans) (outcome answer.Done cur m) (plain s m 10)
-  unfolding nextOf
-  ends-said e = pick-true _ _ (eq-eqb _ _ e) ∙ ap (λ (b : Bool). pick b (outcome answer.Done cur m) (plain s m 10)) (sym all-empty)
+pub next-said : NextSaid
+unfolding nextOf
+next-said rules bytes dir cur m before spans o c fits t n = rw (pick-false _ _ (ne-eqb _ _ n)) (name-next rules bytes dir cur m before spans o c fits t)
+
+pub ends-said : EndsSaid
+unfolding nextOf
+ends-said rules bytes dir cur m before spans o c fits t e =
+    pick-true _ _ (eq-eqb _ _ e)
+    ∙ ap (λ (b : Bool). pick b (outcome answer.Done cur m) (plain (source rules bytes dir cur) m 10)) (sym (all-empty rules bytes dir cur m before spans o c fits t))

@@ -20,10 +20,10 @@ use Rattle.block.specs.Block.{spanOf, endOf, cursorOf}
 use Rattle.block.specs.Open.{Open}
 use Rattle.block.specs.Streams.{typeStream, dzlenStream, ddeltaStream, ddelta0Stream}
 use Rattle.block.proofs.Laws.{span-below, cursor-set-other}
-use Rattle.types.specs.declared.TokenType.{TokenType}
-use Rattle.types.specs.declared.TokenType.the-variants as type
+use Rattle.numbering.specs.declared.TokenType.{TokenType}
+use Rattle.numbering.specs.declared.TokenType.the-variants as type
 use Rattle.tokens.specs.declared.Token.{Token}
-use Rattle.types.specs.Types.{Rules, typeOf}
+use Rattle.numbering.specs.Types.{Rules, typeOf}
 use Rattle.tokens.specs.Tokens.{lengthOf}
 use Rattle.sources.specs.Source.{Source, source, Earlier, byteIn, fourIn, textIn}
 use Rattle.values.specs.declared.Step.{Step}

@@ -15,7 +15,7 @@ use Rattle.block.specs.Open.{Open}
 use Rattle.tables.specs.declared.Row.{Row}
 use Rattle.tokens.specs.declared.Token.{Token}
 use Rattle.tokens.specs.Tokens.{bytesOf, lengthOf}
-use Rattle.types.specs.Types.{Rules}
+use Rattle.numbering.specs.Types.{Rules}
 use Rattle.sources.specs.Source.{Source, source, Earlier}
 use Rattle.values.specs.declared.Step.{Step}
 use Rattle.values.specs.declared.Step.the-variants as step

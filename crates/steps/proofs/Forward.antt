@@ -5,9 +5,9 @@ use mathlib.Core.Bool.{false}
 use Rattle.base.proofs.Choice.{pick-false}
 use Rattle.spans.specs.declared.Cursor.{Cursor}
 use Rattle.spans.specs.declared.NextByte.the-variants as byte
-use Rattle.types.specs.declared.TokenType.{TokenType}
-use Rattle.types.specs.declared.TokenType.the-variants as type
-use Rattle.types.specs.Types.{typeOf}
+use Rattle.numbering.specs.declared.TokenType.{TokenType}
+use Rattle.numbering.specs.declared.TokenType.the-variants as type
+use Rattle.numbering.specs.Types.{typeOf}
 use Rattle.tables.specs.Tables.{rowAt}
 use Rattle.values.specs.declared.Step.the-variants.{Got}
 use Rattle.sources.specs.Source.{Source, Earlier, byteIn}

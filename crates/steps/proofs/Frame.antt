@@ -13,10 +13,10 @@ use Rattle.spans.specs.declared.Cursor.{Cursor}
 use Rattle.spans.specs.declared.NextByte.{NextByte}
 use Rattle.spans.specs.declared.NextByte.the-variants as byte
 use Rattle.block.specs.Block.{spanOf, cursorOf}
-use Rattle.types.specs.declared.TokenType.{TokenType}
-use Rattle.types.specs.declared.TokenType.the-variants as type
+use Rattle.numbering.specs.declared.TokenType.{TokenType}
+use Rattle.numbering.specs.declared.TokenType.the-variants as type
 use Rattle.tokens.specs.declared.Token.{Token}
-use Rattle.types.specs.Types.{Rules, typeOf}
+use Rattle.numbering.specs.Types.{Rules, typeOf}
 use Rattle.tables.specs.Tables.{Table, rowRoom, rowAt}
 use Rattle.tables.proofs.Rows.{SameRows}
 use Rattle.values.specs.declared.Step.the-variants.{Got, Refused}

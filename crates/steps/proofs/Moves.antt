@@ -12,8 +12,8 @@ use Rattle.spans.specs.declared.NextFour.{NextFour}
 use Rattle.spans.specs.declared.NextText.{NextText}
 use Rattle.spans.specs.Spans.{cursor, four}
 use Rattle.block.specs.Streams.{stringStream, charStream, digits0Stream, dzlenStream, digitsStream, ddeltaStream, ddelta0Stream}
-use Rattle.types.specs.declared.TokenType.{TokenType}
-use Rattle.types.specs.declared.TokenType.the-variants as type
+use Rattle.numbering.specs.declared.TokenType.{TokenType}
+use Rattle.numbering.specs.declared.TokenType.the-variants as type
 use Rattle.tokens.specs.declared.Token.{Token}
 use Rattle.values.specs.declared.Step.{Step}
 use Rattle.values.specs.declared.Step.the-variants.{Got, End, Refused}

@@ -5,9 +5,9 @@ use Rattle.spans.specs.declared.Cursor.{Cursor}
 use Rattle.spans.specs.declared.NextByte.{NextByte}
 use Rattle.spans.specs.declared.NextByte.the-variants as byte
 use Rattle.block.specs.Streams.{typeStream, stringStream, charStream, digitsStream}
-use Rattle.types.specs.declared.TokenType.{TokenType}
-use Rattle.types.specs.declared.TokenType.the-variants as type
-use Rattle.types.specs.Types.{typeOf}
+use Rattle.numbering.specs.declared.TokenType.{TokenType}
+use Rattle.numbering.specs.declared.TokenType.the-variants as type
+use Rattle.numbering.specs.Types.{typeOf}
 use Rattle.values.specs.declared.Step.{Step}
 use Rattle.values.specs.declared.Step.the-variants.{End, Refused}
 use Rattle.sources.specs.Source.{Source, Earlier, byteIn, fourIn, textIn}

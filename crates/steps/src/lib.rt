@@ -1,20 +1,24 @@
 // One token: read at its position's spans and resolved against the earlier name's row there.
 // A step reads and judges; it writes nothing.
 ghost use mathlib.Core.Path.{_≡_};
-ghost use Prim.Native.Nat.{_≤_, _<_, _+_, _^_};
+ghost use Prim.Native.Nat.{ℕ, _≤_, _<_, _+_, _^_};
 ghost use Rattle.block.specs.Open.{Open};
-ghost use Rattle.sources.specs.Source.{source, earlier, blockLent};
-ghost use Rattle.types.specs.Types.{Rules};
+ghost use Rattle.base.specs.Choice.{pick};
+ghost use Rattle.spans.specs.declared.Cursor.{Cursor};
+ghost use Rattle.values.specs.declared.Step.the-variants.{Refused};
+ghost use Rattle.bars.specs.Bars.{carries};
+ghost use Rattle.sources.specs.Source.{Source, Earlier, source, earlier, blockLent};
+ghost use Rattle.numbering.specs.Types.{Rules};
 ghost use Rattle.steps.specs.Steps.{valueStep, typedStep};
 ghost use Rattle.repeats.specs.Sound.{Rows, reach};
 ghost use Rattle.base.specs.Lent.{lent};
 ghost use Rattle.tables.specs.Tables.{inRows, rowsLent};
 use block::Setting;
 use block::stream;
+use numbering::TokenType;
 use spans::Cursor;
 use spans::NextByte;
 use spans::Position;
-use types::TokenType;
 use values::Step;
 
 // The token of a type that has been read, c being the cursor past it.
@@ -66,7 +70,25 @@ pub fn value_step(
     }
 }
 
-// The token behind a type byte that has been looked for.
+// At the last position, which takes END alone; 3 is judged before 7.
+fn last_step(t: TokenType) -> Step
+    ensures { λ r. ⌜ ((s : Source) (e : Earlier) (p : ℕ) (c : Cursor) → r ≡ pick (carries t) (Refused 7) (valueStep s e p c t)) ⌝ }
+{
+    match t {
+        TokenType::String => Step::Refused(7),
+        TokenType::Char => Step::Refused(7),
+        TokenType::Digits => Step::Refused(7),
+        TokenType::Digits0 => Step::Refused(7),
+        TokenType::Delta => Step::Refused(7),
+        TokenType::Delta0 => Step::Refused(7),
+        TokenType::Match => Step::Refused(7),
+        TokenType::End => Step::End,
+        TokenType::Other => Step::Refused(3),
+    }
+}
+
+// The token behind a type byte that has been looked for. The type is told where it is known whether this is the last
+// position, so that it is dispatched on once.
 pub fn typed_step(
     set: Setting,
     bytes: &[u8],
@@ -87,10 +109,10 @@ pub fn typed_step(
     match found {
         NextByte::Value(b, c) => {
             let kind = set.kind;
-            let t = types::type_of(kind, b);
-            if bars::barred(p, t) {
-                Step::Refused(7)
+            if bars::is_last(p) {
+                last_step(numbering::type_of(kind, b))
             } else {
+                let t = numbering::type_of(kind, b);
                 value_step(bytes, dir, cursors, text, rows, first, count, p, c, t)
             }
         }

@@ -5,7 +5,7 @@ use mathlib.Core.Bool.{Bool, true, false}
 use mathlib.Core.List.{List}
 use Rattle.base.proofs.Choice.{took, left}
 use Rattle.spans.specs.declared.Cursor.{Cursor}
-use Rattle.types.specs.declared.TokenType.{TokenType}
+use Rattle.numbering.specs.declared.TokenType.{TokenType}
 use Rattle.tokens.specs.declared.Token.{Token}
 use Rattle.tokens.specs.Tokens.{bytesOf, lengthOf}
 use Rattle.values.specs.declared.Step.the-variants as step

@@ -9,7 +9,7 @@ use Rattle.spans.specs.declared.Cursor.{Cursor}
 use Rattle.block.specs.Block.{spanOf, cursorOf}
 use Rattle.block.specs.Streams.{typeStream}
 use Rattle.tables.specs.Tables.{Table, rowRoom}
-use Rattle.types.specs.declared.TokenType.{TokenType}
+use Rattle.numbering.specs.declared.TokenType.{TokenType}
 use Rattle.tokens.specs.declared.Token.{Token}
 use Rattle.tokens.specs.Tokens.{bytesOf, lengthOf}
 use Rattle.tokens.specs.Inside.{KeptBelow}

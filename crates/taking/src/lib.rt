@@ -1,7 +1,7 @@
 // One token of a name taken where a turn stands: judged over what is lent and not written, or kept.
 ghost use mathlib.Core.Path.{_≡_};
 ghost use mathlib.Core.Bool.{true};
-ghost use Rattle.types.specs.Types.{numbersOf};
+ghost use Rattle.numbering.specs.Types.{numbersOf};
 ghost use Rattle.tokens.specs.Inside.{Inside};
 ghost use Rattle.values.specs.declared.Step.the-variants.{Got};
 ghost use Rattle.names.specs.Names.{typeIn};

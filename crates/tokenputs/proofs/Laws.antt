@@ -14,7 +14,7 @@ use Rattle.choices.specs.Choices.{choiceAt, choicesFrom}
 use Rattle.laying.specs.declared.Pass.{Pass}
 use Rattle.laying.specs.Puts.{put}
 use Rattle.laying.specs.Passes.{World, stepOf, runOf, Room, Roomy}
-use Rattle.types.specs.Types.{Rules, typeNumber}
+use Rattle.numbering.specs.Types.{Rules, typeNumber}
 use Rattle.tokenputs.specs.TokenPuts.{choiceType, choicePuts, tokenPuts}
 use Rattle.valueputs.specs.ValuePuts.{valuePuts}
 

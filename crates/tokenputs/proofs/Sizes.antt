@@ -10,7 +10,7 @@ use Rattle.base.proofs.Choice.{pick-true}
 use Rattle.base.proofs.Numbers.{lt-or-ge}
 use Rattle.spans.specs.Spans.{fourBytes}
 use Rattle.block.proofs.Laws.{span-below}
-use Rattle.types.specs.Types.{Rules}
+use Rattle.numbering.specs.Types.{Rules}
 use Rattle.choices.specs.declared.Choice.{Choice}
 use Rattle.choices.specs.declared.Choice.the-variants.{Itself, End}
 use Rattle.splitting.specs.Split.{cutAt}

@@ -5,7 +5,7 @@ use mathlib.Core.List.{List, [], _∷_, _++_}
 use native.Mathlib.Omega.{arith}
 use lib.ListN.{length}
 use Rattle.block.specs.Block.{spanOf}
-use Rattle.types.specs.declared.TokenType.the-variants as type
+use Rattle.numbering.specs.declared.TokenType.the-variants as type
 use Rattle.choices.specs.declared.Choice.{Choice}
 use Rattle.choices.specs.declared.Choice.the-variants.{End}
 use Rattle.splitting.specs.Split.{cutAt}
@@ -15,7 +15,7 @@ use Rattle.laying.specs.declared.Pass.{Pass}
 use Rattle.laying.specs.Puts.{Put, put}
 use Rattle.laying.specs.Passes.{World, stepOf, runOf, Room, Roomy}
 use Rattle.laying.proofs.Passes.{run-append, roomy-append}
-use Rattle.types.specs.Types.{Rules, typeNumber}
+use Rattle.numbering.specs.Types.{Rules, typeNumber}
 use Rattle.tokenputs.specs.TokenPuts.{choiceType, choicePuts, tokenPuts}
 use Rattle.tokenputs.proofs.Laws.{choice-room, choice-ran, tokens-more, tokens-end}
 use Rattle.valueputs.proofs.Laws.{end-ran}

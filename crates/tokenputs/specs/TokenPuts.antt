@@ -3,14 +3,14 @@ use Prim.Native.Nat.{ℕ, _+_}
 use mathlib.Core.List.{List, [], _∷_, _++_}
 use Rattle.block.specs.Block.{spanOf}
 use Rattle.block.specs.Streams.{typeStream}
-use Rattle.types.specs.declared.TokenType.{TokenType}
-use Rattle.types.specs.Types.{Rules, typeNumber}
+use Rattle.numbering.specs.declared.TokenType.{TokenType}
+use Rattle.numbering.specs.Types.{Rules, typeNumber}
 use Rattle.pieces.specs.declared.Piece.{Piece}
 use Rattle.pieces.specs.declared.Piece.the-variants.{String, Char, Digits, Digits0}
 use Rattle.choices.specs.declared.Choice.{Choice}
 use Rattle.choices.specs.declared.Choice.the-variants.{Itself, Delta, Delta0, Match, End}
 use Rattle.laying.specs.Puts.{Put, put}
-use Rattle.types.specs.declared.TokenType.the-variants as type
+use Rattle.numbering.specs.declared.TokenType.the-variants as type
 use Rattle.valueputs.specs.ValuePuts.{valuePuts}
 
 unfoldable pub pieceType : Piece → TokenType

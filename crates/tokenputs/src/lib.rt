@@ -3,7 +3,7 @@ ghost use mathlib.Core.Path.{_≡_};
 ghost use Prim.Native.Nat.{_≤_, _<_};
 ghost use Rattle.classes.specs.Classes.{classTable};
 ghost use Rattle.choices.specs.Choices.{ChoiceWithin, choicesOf};
-ghost use Rattle.types.specs.Types.{rulesOf};
+ghost use Rattle.numbering.specs.Types.{rulesOf};
 ghost use Rattle.laying.specs.Passes.{world, runOf, Roomy};
 ghost use Rattle.tokenputs.specs.TokenPuts.{pieceType, choiceType, choicePuts, tokenPuts};
 ghost use Rattle.base.specs.Lent.{lent, left};
@@ -11,9 +11,9 @@ use block::Setting;
 use block::stream;
 use choices::Choice;
 use laying::Pass;
+use numbering::TokenType;
 use pieces::Piece;
 use spans::Position;
-use types::TokenType;
 
 fn piece_type(t: Piece) -> TokenType
     ensures { λ r. ⌜ r ≡ pieceType t ⌝ }
@@ -54,7 +54,7 @@ fn put_choice(
     ensures { λ r. ⌜ world r (left directory) (left bytes) ≡ runOf pass (choicePuts (rulesOf set) (lent name) (p .0) c) (world total (lent directory) (lent bytes)) ⌝ }
 {
     let kind = set.kind;
-    let b = types::type_number(kind, choice_type(c));
+    let b = numbering::type_number(kind, choice_type(c));
     let span = block::span_of(p, stream::TYPE);
     let next = laying::put_byte(pass, total, directory, bytes, span, b);
     valueputs::put_value(pass, next, directory, bytes, name, p, c)
@@ -90,7 +90,7 @@ pub fn put_tokens(
         p += 1;
     }
     let kind = set.kind;
-    let b = types::type_number(kind, TokenType::End);
+    let b = numbering::type_number(kind, TokenType::End);
     let span = block::span_of(Position(p), stream::TYPE);
     laying::put_byte(pass, sum, directory, bytes, span, b)
 }

@@ -10,10 +10,10 @@ use Rattle.spans.specs.declared.Cursor.{Cursor}
 use Rattle.spans.specs.declared.NextByte.{NextByte}
 use Rattle.block.specs.Block.{spanOf, endOf, cursorOf}
 use Rattle.block.specs.Streams.{dzlenStream}
-use Rattle.types.specs.declared.TokenType.{TokenType}
-use Rattle.types.specs.declared.TokenType.the-variants as type
+use Rattle.numbering.specs.declared.TokenType.{TokenType}
+use Rattle.numbering.specs.declared.TokenType.the-variants as type
 use Rattle.tokens.specs.declared.Token.{Token}
-use Rattle.types.specs.Types.{typeOf}
+use Rattle.numbering.specs.Types.{typeOf}
 use Rattle.tokens.specs.Inside.{Inside}
 use Rattle.tokens.proofs.Laws.{below-more}
 use Rattle.sources.specs.Source.{Source, Earlier, byteIn}

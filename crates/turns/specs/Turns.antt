@@ -7,8 +7,8 @@ use lib.ListN.{length}
 use Rattle.base.specs.Lent.{Buffer, lent}
 use Rattle.block.specs.declared.Setting.{Setting}
 use Rattle.tables.specs.Tables.{Table, inRows, rowRoom}
-use Rattle.types.specs.declared.TokenType.{TokenType}
-use Rattle.types.specs.Types.{rulesOf}
+use Rattle.numbering.specs.declared.TokenType.{TokenType}
+use Rattle.numbering.specs.Types.{rulesOf}
 use Rattle.tokens.specs.Tokens.{lengthOf}
 use Rattle.values.specs.declared.Step.{Step}
 use Rattle.values.specs.declared.Step.the-variants as step

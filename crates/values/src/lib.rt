@@ -3,7 +3,7 @@ ghost use mathlib.Core.Path.{_≡_};
 ghost use Prim.Native.Nat.{_≤_};
 ghost use Rattle.block.specs.Open.{Open};
 ghost use Rattle.sources.specs.Source.{source};
-ghost use Rattle.types.specs.Types.{Rules};
+ghost use Rattle.numbering.specs.Types.{Rules};
 ghost use Rattle.base.specs.Lent.{lent};
 ghost use Rattle.values.specs.Values.{stringStep, charStep, digitsStep, withWidth, paddedOf, paddedIn, paddedStep, digits0Step};
 use block::stream;

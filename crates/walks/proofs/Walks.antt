@@ -15,7 +15,7 @@ use Rattle.block.specs.Block.{spanOf, cursorOf}
 use Rattle.block.specs.Open.{Open}
 use Rattle.tables.specs.Tables.{rowRoom}
 use Rattle.tokens.specs.declared.Token.{Token}
-use Rattle.types.specs.Types.{Rules}
+use Rattle.numbering.specs.Types.{Rules}
 use Rattle.tokens.specs.Tokens.{bytesOf, lengthOf}
 use Rattle.tokens.proofs.Laws.{length-bytes}
 use Rattle.values.specs.declared.Step.{Step}

@@ -6,7 +6,7 @@ use denote.Ref.{RefT, now}
 use Rattle.base.specs.Choice.{pick}
 use Rattle.base.specs.Lent.{Buffer}
 use Rattle.block.specs.declared.Setting.{Setting}
-use Rattle.types.specs.Types.{rulesOf}
+use Rattle.numbering.specs.Types.{rulesOf}
 use Rattle.tables.specs.Tables.{inRows}
 use Rattle.sources.specs.Source.{source, earlier}
 use Rattle.names.specs.Names.{Named, nameOf}

@@ -6,7 +6,7 @@ use Rattle.base.specs.Every.{every, numbers}
 use Rattle.digits.specs.Digits.{low, padded, countWithin, digitCount, printed, fitsWidth}
 use Rattle.classes.specs.Classes.{isAllowed}
 use Rattle.block.specs.Block.{spanOf}
-use Rattle.types.specs.Types.{numbersOf, typeOf}
+use Rattle.numbering.specs.Types.{numbersOf, typeOf}
 use Rattle.bars.specs.Bars.{carries, barred}
 use Rattle.words.specs.Fronts.{leave, byte, four, longer, text, then, taken}
 use Rattle.words.specs.Values.{prints}

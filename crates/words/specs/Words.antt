@@ -14,9 +14,9 @@ use Rattle.digits.specs.Digits.{fitsWidth}
 use Rattle.classes.specs.Classes.{allAllowed}
 use Rattle.block.specs.Block.{spanOf, startOf, endOf}
 use Rattle.block.specs.Streams.{typeStream, stringStream, charStream, digits0Stream, dzlenStream, dupStream, diffStream, digitsStream, ddeltaStream, ddelta0Stream}
-use Rattle.types.specs.declared.TokenType.{TokenType}
-use Rattle.types.specs.declared.TokenType.the-variants as type
-use Rattle.types.specs.Types.{Rules, typeOf}
+use Rattle.numbering.specs.declared.TokenType.{TokenType}
+use Rattle.numbering.specs.declared.TokenType.the-variants as type
+use Rattle.numbering.specs.Types.{Rules, typeOf}
 use Rattle.bars.specs.Bars.{barred}
 use Rattle.words.specs.Fronts.{Spans, byte, four, text, Said, said, refused, then, from}
 use Rattle.words.specs.Values.{Value, string, char, digits, digits0, prints, Name, nobody}

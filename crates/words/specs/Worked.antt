@@ -3,7 +3,7 @@ use Prim.Native.Nat.{ℕ}
 use mathlib.Core.List.{List, [], _∷_}
 use Rattle.block.specs.Block.{spanOf}
 use Rattle.block.specs.Streams.{typeStream, stringStream, charStream, digits0Stream, dzlenStream, dupStream, diffStream, digitsStream, ddelta0Stream}
-use Rattle.types.specs.Types.{rulesOf, draftPlain}
+use Rattle.numbering.specs.Types.{rulesOf, draftPlain}
 use Rattle.words.specs.Fronts.{Spans, leave}
 use Rattle.words.specs.Values.{string, char, digits, digits0, Name}
 use Rattle.words.specs.Words.{Telling, done, namesFrom}

@@ -1,7 +1,7 @@
 // Writing as a C function leaves it: the answer one number, the totals as two.
 // A refused call leaves what it may write as it was, the totals too.
 ghost use mathlib.Core.Path.{_≡_};
-ghost use Rattle.types.specs.Types.{rulesOf};
+ghost use Rattle.numbering.specs.Types.{rulesOf};
 ghost use Rattle.writecalls.specs.Calls.{writesLeft, writeCallLent};
 use block::Setting;
 use writing::WriteAnswer;

@@ -21,7 +21,7 @@ use Rattle.block.specs.declared.Refusal.the-variants.{Plain, At}
 use Rattle.writing.specs.declared.WriteAnswer.{WriteAnswer}
 use Rattle.writing.specs.declared.WriteAnswer.the-variants.{Written, Refused}
 use Rattle.inputs.specs.Inputs.{namesAfter, namesOf, ended, goodName, judgedFrom}
-use Rattle.types.specs.Types.{draftPlain, numbersOf, typeNumber, rulesOf}
+use Rattle.numbering.specs.Types.{draftPlain, numbersOf, typeNumber, rulesOf}
 use Rattle.tokenputs.specs.TokenPuts.{pieceType, choiceType, choicePuts, tokenPuts}
 use Rattle.valueputs.specs.ValuePuts.{piecePuts, valuePuts}
 use Rattle.nameputs.specs.NamePuts.{headPuts, referencePuts, namePuts, putsFrom, putsOf}

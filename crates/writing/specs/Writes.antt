@@ -6,7 +6,7 @@ use lib.Dec.{leb, eqb}
 use lib.ListN.{length}
 use Rattle.base.specs.Choice.{pick, both}
 use Rattle.block.specs.declared.Refusal.the-variants.{Plain, At}
-use Rattle.types.specs.Types.{Rules}
+use Rattle.numbering.specs.Types.{Rules}
 use Rattle.laying.specs.Puts.{totalOf, directoryOf, bytesOf}
 use Rattle.inputs.specs.declared.Judged.{Judged}
 use Rattle.inputs.specs.declared.Judged.the-variants.{Fine, Bad}

@@ -3,7 +3,7 @@
 ghost use mathlib.Core.Path.{_≡_};
 ghost use lib.ListN.{length};
 ghost use Rattle.classes.specs.Classes.{classTable};
-ghost use Rattle.types.specs.Types.{rulesOf};
+ghost use Rattle.numbering.specs.Types.{rulesOf};
 ghost use Rattle.inputs.specs.Inputs.{namesOf};
 ghost use Rattle.filling.specs.Ready.{Ready};
 ghost use Rattle.writing.specs.Writes.{writing, laidOf, writeOf};

@@ -495,6 +495,9 @@ fn writing_takes_65536_names() {
     assert_eq!(memory.total_numbers(), [65_536, 8 + 5 * 65_535]);
     assert_eq!(write_whole(&b"@\n".repeat(65_537), 0).0, (12, NO_NAME));
     assert_eq!(write_whole(&b"@\n".repeat(65_536), 0).0, (8, 0));
+    // Empty names: as many to a part of the input as there can be.
+    assert_eq!(write_whole(&b"\n".repeat(65_537), 0).0, (12, NO_NAME));
+    assert_eq!(write_whole(&b"\n".repeat(65_536), 0).0, (8, 0));
 }
 
 /// Refused at opening, a whole-block read changes nothing; later, the steps before stay.

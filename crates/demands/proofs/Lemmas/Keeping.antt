@@ -37,7 +37,7 @@ use Rattle.demands.proofs.Lemmas.Making.{Made, dup, diff, Room, made, r
 use Rattle.demands.proofs.Lemmas.Later.{NameSure, later-adds, home-later, rows-later, name-later}
 use Rattle.demands.proofs.Lemmas.Adding.{entry, text-kept, entry-kept, kept-adds, refers-made}
 use Rattle.demands.proofs.Lemmas.Ways.{read-case, ready-holds}
-use Rattle.types.specs.Types.{Rules}
+use Rattle.numbering.specs.Types.{Rules}
 use Rattle.words.specs.Words.{Telling}
 
 pub record Sure (bytes dir : List ℕ) (l : Lent) : Type 0 where

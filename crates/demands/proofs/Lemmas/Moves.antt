@@ -13,8 +13,8 @@ use Rattle.spans.proofs.Laws.{end-found}
 use Rattle.block.specs.Block.{spanOf, cursorOf}
 use Rattle.block.proofs.Laws.{span-below, cursor-set-same, cursor-set-other}
 use Rattle.block.specs.Streams.{dzlenStream, diffStream}
-use Rattle.types.specs.declared.TokenType.{TokenType}
-use Rattle.types.specs.declared.TokenType.the-variants as type
+use Rattle.numbering.specs.declared.TokenType.{TokenType}
+use Rattle.numbering.specs.declared.TokenType.the-variants as type
 use Rattle.tokens.specs.declared.Token.{Token}
 use Rattle.sources.specs.Source.{Source, Earlier}
 use Rattle.names.specs.Names.{Draft, draft, grown, ended, typeAt}

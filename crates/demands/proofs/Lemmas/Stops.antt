@@ -1,8 +1,7 @@
 -- A name is refused exactly where its tokens stop (specs/Stops): a refusal of the walk has its cause (`name-stops`), and the cause gives the refusal (`stops-name`).
 use Prim.Native.Nat.{ℕ, zero, suc, _+_, _-_, _^_, _≤_, _<_}
 use mathlib.Core.Path.{_≡_, refl, sym, ap, _∙_, subst}
-use mathlib.Core.Bool.{Bool, true, false}
-use mathlib.Core.List.{List}
+use mathlib.Core.Bool.{true, false}
 use mathlib.Core.Logic.{⊎-elim}
 use native.Mathlib.Omega.{arith}
 use borrow.Author.Tests.{leb-false, le-leb, eqb-true, eq-eqb}
@@ -17,8 +16,8 @@ use Rattle.spans.specs.declared.NextByte.the-variants as byte
 use Rattle.spans.specs.declared.NextFour.{NextFour}
 use Rattle.spans.specs.declared.NextFour.the-variants as four
 use Rattle.block.specs.Streams.{digits0Stream, dzlenStream, ddeltaStream, ddelta0Stream}
-use Rattle.types.specs.declared.TokenType.{TokenType}
-use Rattle.types.specs.declared.TokenType.the-variants as type
+use Rattle.numbering.specs.declared.TokenType.{TokenType}
+use Rattle.numbering.specs.declared.TokenType.the-variants as type
 use Rattle.tokens.specs.declared.Token.{Token}
 use Rattle.tokens.specs.Tokens.{bytesOf}
 use Rattle.sources.specs.Source.{Source, Earlier, byteIn, fourIn}
@@ -30,19 +29,19 @@ use Rattle.sums.proofs.Ways.{sum-long, sum0-long}
 use Rattle.repeats.specs.Repeats.{rowHere, deltaAt, delta0At}
 use Rattle.repeats.proofs.Ways.{match-none}
 use Rattle.bars.specs.Bars.{carries, barred}
-use Rattle.bars.proofs.Laws.{unbarred-before, unbarred-end}
+use Rattle.bars.proofs.Laws.{unbarred-before, unbarred-end, unbarred-other}
 use Rattle.steps.specs.Steps.{valueStep, typedStep, stepAt}
 use Rattle.steps.proofs.Forward.{step-typed}
 use Rattle.steps.proofs.Ways.{typed-barred}
 use Rattle.names.specs.declared.Judged.{Judged}
 use Rattle.names.specs.declared.Judged.the-variants as judged
-use Rattle.names.specs.Names.{refused, printable, nameOf}
+use Rattle.names.specs.Names.{printable}
 use Rattle.names.specs.Judge.{summary}
 use Rattle.names.proofs.Growing.{printable-short}
 use Rattle.names.proofs.Judgement.{judgeOn, judgeFrom, judge-of, goes, long-spoils}
 use Rattle.names.proofs.Frames.{judged-refused}
 use Rattle.demands.specs.Refusals.{ByToken}
-use Rattle.demands.specs.Stops.{StopsAt, Typed, Fitting, Misfit, Reached, at-first, at-next, Stop, ends-type, ends-string, ends-char, ends-digits, ends-digits0, ends-dzlen, ends-ddelta, ends-ddelta0, unknown, no-row, no-digits, no-digits0, large-sum, large-sum0, long-sum0, long-digits0, no-end, not-allowed, too-long, empty}
+use Rattle.demands.specs.Stops.{NameStops, StopsName, StopsAt, Typed, Fitting, Misfit, Reached, at-first, at-next, Stop, ends-type, ends-string, ends-char, ends-digits, ends-digits0, ends-dzlen, ends-ddelta, ends-ddelta0, unknown, no-row, no-digits, no-digits0, large-sum, large-sum0, long-sum0, long-digits0, no-end, not-allowed, too-long, empty}
 use Rattle.demands.proofs.Lemmas.Traces.{StepWay, halts, closes, gives, step-way, fitting, has-kind}
 
 module _ (s : Source) (e : Earlier) where
@@ -96,9 +95,9 @@ module _ (s : Source) (e : Earlier) where
       stops-on p len n r h (judgeFrom s e f (p + 1)) (λ k m i w. stops-from f (p + 1) k m r (omega arith) i w)
       (stepAt s e p) refl (step-way s e p (omega arith)) q
 
-  pub name-stops : (used : ℕ) (cur : List ℕ) (r : ℕ) → nameOf s e used cur ≡ refused r → StopsAt s e r
-  unfolding summary
-  name-stops used cur r q = stops-from 128 1 0 0 r refl at-first (sym (judge-of s e used cur) ∙ ap summary q)
+pub name-stops : NameStops
+unfolding summary
+name-stops s e used cur r q = stops-from s e 128 1 0 0 r refl at-first (sym (judge-of s e used cur) ∙ ap summary q)
 
 -- a cause gives its refusal: first what the step at its position comes to
 misfits : (n w : ℕ) (c : Cursor) → Misfit n w → paddedStep n w c ≡ step.Refused 6
@@ -130,10 +129,6 @@ no-width four.Short = refl
 module _ (s : Source) (e : Earlier) (p : ℕ) where
   typed-step : (y : TokenType) (q : Typed s p y) → barred p y ≡ false → stepAt s e p ≡ valueStep s e p (q .past) y
   typed-step y q h = step-typed s e p (q .there) y (q .is) h
-
-  unbarred-other : barred p type.Other ≡ false
-  unfolding barred carries
-  unbarred-other = pick-either (λ (x : Bool). x ≡ false) _ _ _ refl refl
 
   last-step : (y : TokenType) → p ≡ 128 → Typed s p y → (y ≡ type.Other → ⊥) → (y ≡ type.End → ⊥) → stepAt s e p ≡ step.Refused 7
   unfolding stepAt barred
@@ -176,7 +171,7 @@ module _ (s : Source) (e : Earlier) (p : ℕ) where
     stop-judges r (ends-dzlen l q z) = by-value 2 type.Digits0 l q (ap (λ (v : NextByte). digits0Step (paddedOf (fourIn s p digits0Stream) v)) z ∙ no-width (fourIn s p digits0Stream))
     stop-judges r (ends-ddelta l q f z) = by-value 2 type.Delta l q (delta-fits f byte.Short z)
     stop-judges r (ends-ddelta0 l q f z) = by-value 2 type.Delta0 l q (delta0-fits f byte.Short z)
-    stop-judges r (unknown q) = by-step 3 (typed-step type.Other q unbarred-other)
+    stop-judges r (unknown q) = by-step 3 (typed-step type.Other q (unbarred-other p))
     stop-judges r (no-row l q h) = by-value 5 type.Match l q (sym (match-none e p (q .past) h))
     stop-judges r (no-digits l q f) = by-value 5 type.Delta l q (pick-false _ _ (fails (λ k. f (fitting e p 7 k))))
     stop-judges r (no-digits0 l q f) = by-value 5 type.Delta0 l q (pick-false _ _ (fails (λ k. f (fitting e p 4 k))))
@@ -213,9 +208,6 @@ module _ (s : Source) (e : Earlier) where
       sym (reached-judges p len h (suc (128 - p)) (p - 1) (omega (arith, b .1)) (omega (arith, b .0)))
       ∙ stop-judges s e p len (p - 1) (judgeFrom s e (128 - p) (p + 1)) r c
 
-  pub stops-name : (used : ℕ) (cur : List ℕ) (p len r : ℕ) → Reached s e p len → Stop s e p len r → nameOf s e used cur ≡ refused r
-  stops-name used cur p len r h c = judged-refused _ (sym (stopped-judges p len r h c) ∙ sym (judge-of s e used cur))
-
   -- the numbers of the causes
   pub stop-number : (p len r : ℕ) → Stop s e p len r → ByToken r
   stop-number p len r (ends-type z) = omega arith
@@ -238,3 +230,6 @@ module _ (s : Source) (e : Earlier) where
   stop-number p len r (not-allowed t c g a) = omega arith
   stop-number p len r (too-long t c g h) = omega arith
   stop-number p len r (empty q z) = omega arith
+
+pub stops-name : StopsName
+stops-name s e used cur p len r h c = judged-refused _ (sym (stopped-judges s e p len r h c) ∙ sym (judge-of s e used cur))

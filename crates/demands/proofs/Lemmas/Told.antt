@@ -24,14 +24,15 @@ use Rattle.words.specs.Fronts.{Spans, Said, said}
 use Rattle.words.specs.Values.{Name, nobody}
 use Rattle.words.specs.Words.{next, Ending, done, unread, stopped, Telling, tell, allEmpty, goOn, namesFrom, telling}
 use Rattle.standing.specs.Stands.{Stands, Tells}
-use Rattle.standing.proofs.Next.{ReadSaid, gives, full, keeps, next-said, ends-said}
+use Rattle.standing.specs.Next.{ReadSaid, gives, full, keeps}
+use Rattle.standing.proofs.Next.{next-said, ends-said}
 use Rattle.demands.specs.Runs as runs
 use Rattle.demands.specs.Runs.{Lent, read, left, after, reading, Keeps, Fresh}
 use Rattle.demands.specs.ByWords.{endsWith, answerAt, ByWords}
 use Rattle.demands.specs.Refusals.{Ready}
 use Rattle.demands.proofs.Lemmas.Ways.{ready-reads, ready-holds}
 use Rattle.demands.proofs.Lemmas.Keeping.{Sure, after-sure}
-use Rattle.types.specs.Types.{Rules}
+use Rattle.numbering.specs.Types.{Rules}
 
 -- names, the newest first, put in their order before others
 pub onto : List Name → List Name → List Name

@@ -20,7 +20,7 @@ use Rattle.block.specs.Streams.{typeStream, dupStream, diffStream}
 use Rattle.tables.specs.Tables.{Kept, keeping, Table}
 use Rattle.kept.specs.Judgement.{counts, earlierFits}
 use Rattle.kept.proofs.Laws.{counted, fresh-counted, earlier}
-use Rattle.types.specs.Types.{Rules}
+use Rattle.numbering.specs.Types.{Rules}
 use Rattle.sources.specs.Source.{Source, Earlier, source, byteIn, fourIn}
 use Rattle.names.specs.Names.{Draft, Named, named, refused, nameOf}
 use Rattle.distances.specs.declared.Head.{Head}
@@ -35,9 +35,9 @@ use Rattle.earlier.specs.Back.{entryBack}
 use Rattle.inner.specs.Next.{headedOf, nextOf}
 use Rattle.reads.specs.Reads.{readOf}
 use Rattle.reads.proofs.Holding.{Holds, next-holds, read-next}
-use Rattle.demands.specs.Refusals.{Back, Ready, is-dup, is-diff, Heads, Rule2, dup-back, diff-none, diff-back, HeadStop, no-type, no-head, no-distance, off-rule, Leans, on-none, on-earlier, Origin, copied, walked, by-head, by-memory, by-token, by-room, unsound, uncounted, outside, unread, unnamed, ReadCase, refuses, ends, keeps, dupIn, diffIn}
+use Rattle.demands.specs.Refusals.{Back, Ready, is-dup, is-diff, Heads, Rule2, dup-back, diff-none, diff-back, HeadStop, no-type, no-head, no-distance, off-rule, Leans, on-none, on-earlier, Origin, copied, walked, by-head, by-memory, by-token, by-room, unsound, uncounted, outside, unread, unnamed, ReadCase, refuses, ends, keeps, ReadHasCase, dupIn, diffIn}
 use Rattle.demands.proofs.Lemmas.Stops.{name-stops}
-use Rattle.types.proofs.Laws.{dup-not-diff}
+use Rattle.numbering.proofs.Laws.{dup-not-diff}
 
 -- what position 0 can say of name n
 data HeadCase (s : Source) (n : ℕ) : Head → Type 0 where
@@ -152,7 +152,7 @@ next-case s m r =
     (λ e. pick-holds (ReadCase s m) (allAtEnd (s .dir) (s .cur)) _ _ (λ f. ends r (eqb-true _ _ e) f) (λ f. refuses _ (unread r (eqb-true _ _ e) f)))
     (λ e. headed-case s m r (eqb-false _ _ e) _ (head-case s (m .state .names)))
 
-pub read-case : (s : Source) (m : Kept) → ReadCase s m (readOf s m)
+pub read-case : ReadHasCase
 unfolding readOf plain
 read-case s m =
     pick-holds (ReadCase s m) (sound (length (s .bytes)) (s .dir) (s .cur)) _ _

@@ -1,5 +1,5 @@
 use denote.Ref.{now}
-use Rattle.types.specs.Types.{rulesOf}
+use Rattle.numbering.specs.Types.{rulesOf}
 use borrow.Author.Needs.{needs}
 use Rattle.filling.proofs.Filled.{first-room, places-room, last-room, filled}
 use Rattle.filling.proofs.fill.Statement.{statement}

@@ -4,7 +4,7 @@ use native.Mathlib.Nat.{div-add-mod}
 use native.Mathlib.Omega.{arith}
 use lib.ListN.{length}
 use denote.Ref.{now}
-use Rattle.types.specs.Types.{rulesOf}
+use Rattle.numbering.specs.Types.{rulesOf}
 use borrow.Author.Needs.{needs}
 use Rattle.filling.proofs.Filled.{ample, total-room, counted-out}
 use Rattle.filling.proofs.fits.Statement.{statement}

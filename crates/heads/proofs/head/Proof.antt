@@ -5,7 +5,7 @@ use mathlib.Core.Path.{sym, _∙_}
 use borrow.Author.Needs.{needs}
 use Rattle.heads.proofs.head.Statement.{statement}
 use Rattle.heads.proofs.head.Tie as tie
-use Rattle.types.specs.Types.{rulesOf}
+use Rattle.numbering.specs.Types.{rulesOf}
 
 byte-in-requires : tie.Need-byte-in-requires
 byte-in-requires c κs = search needs

@@ -7,7 +7,7 @@ use mathlib.Core.Path.{sym, _∙_}
 use borrow.Author.Needs.{needs}
 use Rattle.inner.proofs.next.Statement.{statement}
 use Rattle.inner.proofs.next.Tie as tie
-use Rattle.types.specs.Types.{rulesOf}
+use Rattle.numbering.specs.Types.{rulesOf}
 use Rattle.tables.specs.Tables.{inRows}
 
 abbrev to-start : tie.Else1 → tie.Start

@@ -1,5 +1,4 @@
-use Prim.Native.Nat.{_+_, _-_, _≤_, _<_}
-use mathlib.Core.Logic.{⊎-elim}
+use Prim.Native.Nat.{_+_, _-_, _≤_}
 use mathlib.Core.List.{[]}
 use mathlib.Core.Path.{_≡_, ap}
 use native.Mathlib.Omega.{arith}
@@ -7,7 +6,7 @@ use lib.ListN.{length, drop}
 use denote.Ref.{now}
 use borrow.Author.Needs.{needs}
 use Rattle.inputs.specs.Inputs.{namesAfter, namesOf}
-use Rattle.inputs.proofs.Laws.{count-here, count-next, names-out}
+use Rattle.inputs.proofs.Laws.{names-out}
 use Rattle.inputs.proofs.count.Statement.{statement}
 use Rattle.inputs.proofs.count.Tie as tie
 
@@ -21,8 +20,17 @@ loop-holds : tie.Need-loop-holds Inv-loop μ-loop
 unfolding namesOf
 loop-holds c = (search needs, (search needs, search needs))
 
-shared-slice-read-if1 : tie.Need-shared-slice-read-if1 Inv-loop μ-loop
-shared-slice-read-if1 c = search needs
+sub-loop : tie.Need-sub-loop Inv-loop μ-loop
+sub-loop c = search needs
+
+add-ends-in : tie.Need-add-ends-in Inv-loop μ-loop
+add-ends-in c = search needs
+
+ends-in-requires : tie.Need-ends-in-requires Inv-loop μ-loop
+ends-in-requires c κs = search needs
+
+cast-n : tie.Need-cast-n Inv-loop μ-loop
+cast-n c = search needs
 
 add-n : tie.Need-add-n Inv-loop μ-loop
 add-n c = search needs
@@ -34,20 +42,22 @@ loop-less : tie.Need-loop-less Inv-loop μ-loop
 loop-less c = search needs
 
 loop-again : tie.Need-loop-again Inv-loop μ-loop
-loop-again c =
-    let l = c .before .before .before .loop in
-    let s = now (c .before .before .before .before .args .input) in
-    let h : l .i < length s = omega arith in
-    ⊎-elim
-    (λ w. (omega arith, (omega arith, omega (arith, count-here s (l .i) h (w .0 .taken)))))
-    (λ w. (omega arith, (omega arith, omega (arith, count-next s (l .i) h (w .0 .left)))))
-    (c .if1 .came)
+loop-again c = (omega arith, (omega arith, omega arith))
+
+ends-in-requires-2 : tie.Need-ends-in-requires-2 Inv-loop μ-loop
+ends-in-requires-2 c κs = search needs
+
+cast-result : tie.Need-cast-result Inv-loop μ-loop
+cast-result c = search needs
+
+add-result : tie.Need-add-result Inv-loop μ-loop
+add-result c = search needs
 
 returns : tie.Need-returns Inv-loop μ-loop
 returns c =
-    let l = c .before .loop in
-    let s = now (c .before .before .args .input) in
-    omega (arith, ap length (names-out s [] (l .i) (omega arith)))
+    let at-start : tie.Start Inv-loop μ-loop = search in
+    let s = now (at-start .args .input) in
+    omega (arith, ap length (names-out s [] (length s) (omega arith)))
 
 pub count-spec : {M : Type 1} → statement M
 count-spec =
@@ -56,9 +66,15 @@ count-spec =
     Inv-loop
     μ-loop
     loop-holds
-    shared-slice-read-if1
+    sub-loop
+    add-ends-in
+    ends-in-requires
+    cast-n
     add-n
     add-i
     loop-less
     loop-again
+    ends-in-requires-2
+    cast-result
+    add-result
     returns)

@@ -1,25 +1,19 @@
-use Prim.Native.Nat.{ℕ, _-_, _≤_, _<_}
-use mathlib.Core.List.{List, []}
-use mathlib.Core.Path.{_≡_, sym, ap, _∙_}
-use native.Mathlib.Omega.{arith}
-use lib.ListN.{length, drop}
+use Prim.Native.Nat.{_-_}
+use lib.ListN.{length}
 use denote.Ref.{now}
 use borrow.Author.Needs.{needs}
-use Rattle.base.specs.Memory.{part}
-use Rattle.base.proofs.Lists.{part-none}
-use Rattle.inputs.specs.Inputs.{namesAfter}
-use Rattle.inputs.proofs.Laws.{names-here, name-next, not-last}
+use Rattle.inputs.proofs.Laws.{InName, name-starts, name-more, name-ends, not-last}
 use Rattle.inputs.proofs.name_end.Statement.{statement}
 use Rattle.inputs.proofs.name_end.Tie as tie
 
 abbrev Inv-loop : tie.InvT-loop
-Inv-loop input at i₀ i = (at ≤ i) × ((i < length input) × (namesAfter (part input at i) (drop i input) ≡ namesAfter [] (drop at input)))
+Inv-loop input at i₀ i = InName input at i
 
 abbrev μ-loop : tie.MeasureT-loop
 μ-loop input at i₀ i = length input - i
 
 loop-holds : tie.Need-loop-holds Inv-loop μ-loop
-loop-holds c = let a = c .args in (search needs, (search needs, ap (λ (l : List ℕ). namesAfter l (drop (a .at) (now (a .input)))) (part-none (now (a .input)) (a .at) (a .at) (omega arith))))
+loop-holds c = name-starts _ _ (c .pre .0)
 
 shared-slice-read-if1 : tie.Need-shared-slice-read-if1 Inv-loop μ-loop
 shared-slice-read-if1 c = search needs
@@ -32,25 +26,15 @@ loop-less c = search needs
 
 loop-again : tie.Need-loop-again Inv-loop μ-loop
 loop-again c =
-    let l = c .before .before .loop in
-    let s = c .before .before .before in
-    let a = s .args in (
-      omega arith,
-      (
-        not-last (now (a .input)) (l .i) (s .pre .1) (l .inv .1 .0) (c .if1 .taken),
-        name-next (now (a .input)) (a .at) (l .i) (l .inv .0) (l .inv .1 .0) (c .if1 .taken) ∙ l .inv .1 .1,
-      ),
-    )
+    let at-start : tie.Start Inv-loop μ-loop = search in
+    let at-loop : tie.At-loop Inv-loop μ-loop = search in
+    let n = at-loop .loop .inv in
+    name-more _ _ _ n (not-last (now (at-start .args .input)) _ (at-start .pre .1) (n .high) (c .if1 .taken)) (c .if1 .taken)
 
 returns : tie.Need-returns Inv-loop μ-loop
 returns c =
-    let l = c .before .before .loop in
-    let a = c .before .before .before .args in
-    record {
-      low = l .inv .0;
-      high = l .inv .1 .0;
-      first = sym (l .inv .1 .1) ∙ names-here (now (a .input)) (part (now (a .input)) (a .at) (l .i)) (l .i) (l .inv .1 .0) (c .if1 .left);
-    }
+    let at-loop : tie.At-loop Inv-loop μ-loop = search in
+    name-ends _ _ _ (at-loop .loop .inv) (c .if1 .left)
 
 pub name-end-spec : {M : Type 1} → statement M
 name-end-spec =

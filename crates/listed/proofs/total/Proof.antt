@@ -1,4 +1,4 @@
-use Rattle.types.specs.Types.{draftPlain, rulesOf}
+use Rattle.numbering.specs.Types.{draftPlain, rulesOf}
 use Rattle.filling.proofs.Filled.{total-room, total-is}
 use Rattle.listed.proofs.Answers.{ready}
 use mathlib.Core.Path.{refl}

@@ -3,7 +3,7 @@ use native.Mathlib.Omega.{arith}
 use denote.Ref.{now}
 use borrow.Author.Needs.{needs}
 use Rattle.block.specs.Streams.{diffStream}
-use Rattle.types.specs.Types.{numbersOf, rulesOf}
+use Rattle.numbering.specs.Types.{numbersOf, rulesOf}
 use Rattle.laying.proofs.Passes.{run-append, roomy-append}
 use Rattle.choices.specs.Choices.{choicesOf}
 use Rattle.laying.specs.Passes.{World, world, runOf, Roomy}

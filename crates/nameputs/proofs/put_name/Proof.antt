@@ -5,7 +5,7 @@ use native.Mathlib.Omega.{arith}
 use denote.Ref.{now}
 use borrow.Author.Needs.{needs}
 use Rattle.block.specs.Streams.{diffStream}
-use Rattle.types.specs.Types.{numbersOf, rulesOf}
+use Rattle.numbering.specs.Types.{numbersOf, rulesOf}
 use Rattle.choices.specs.Choices.{choicesOf}
 use Rattle.laying.specs.Puts.{Put}
 use Rattle.laying.specs.Passes.{world, runOf, Roomy}

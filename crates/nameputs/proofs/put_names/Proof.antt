@@ -5,7 +5,7 @@ use native.Mathlib.Omega.{arith}
 use lib.ListN.{length}
 use denote.Ref.{now}
 use Rattle.base.specs.Memory.{part}
-use Rattle.types.specs.Types.{rulesOf}
+use Rattle.numbering.specs.Types.{rulesOf}
 use Rattle.laying.specs.Passes.{world}
 use Rattle.nameputs.proofs.Walks.{Naming, names-start, names-room, names-more, names-end}
 use Rattle.inputs.proofs.Standing.{names-count}

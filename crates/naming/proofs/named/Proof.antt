@@ -1,7 +1,7 @@
 use Rattle.naming.proofs.Walking.{Starts, starts, known-as, walks-less, walk-asks, walk-refused, walk-full, head-asks, walk-on, entry-asks, walk-kept}
 use Rattle.base.specs.Choice.{pick}
 use Rattle.tables.specs.Tables.{inRows}
-use Rattle.types.specs.Types.{rulesOf}
+use Rattle.numbering.specs.Types.{rulesOf}
 use native.Mathlib.Omega.{arith}
 use mathlib.Core.Bool.{true}
 use mathlib.Core.Path.{_≡_, refl, sym, _∙_}

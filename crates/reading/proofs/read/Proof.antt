@@ -5,7 +5,7 @@ use mathlib.Core.Path.{refl, sym, _∙_}
 use borrow.Author.Needs.{needs}
 use Rattle.reading.proofs.read.Statement.{statement}
 use Rattle.reading.proofs.read.Tie as tie
-use Rattle.types.specs.Types.{rulesOf}
+use Rattle.numbering.specs.Types.{rulesOf}
 use Rattle.tables.specs.Tables.{inRows}
 
 abbrev to-start : tie.After-enum-told3 → tie.Start

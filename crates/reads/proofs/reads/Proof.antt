@@ -1,6 +1,6 @@
 use Rattle.reads.proofs.Loops.{Reads, reads-less, reads-on, reads-out}
 use Rattle.base.specs.Choice.{pick}
-use Rattle.types.specs.Types.{rulesOf}
+use Rattle.numbering.specs.Types.{rulesOf}
 use Rattle.sources.specs.Source.{source}
 use Rattle.inner.specs.Next.{nextOf}
 use Rattle.reads.specs.Reads.{fresh, readsFrom}

@@ -8,7 +8,7 @@ use Rattle.names.specs.Keeps.{Memory, memory}
 use Rattle.running.proofs.Runs.{run-few, run-spelt, run-moves, length-asks, fewer-spelt, fewer-rows, ran-none, ran-long, ran-on, puts-none, puts-long, puts-not, puts-run}
 use Rattle.running.proofs.run.Statement.{statement}
 use Rattle.running.proofs.run.Tie as tie
-use Rattle.types.specs.Types.{rulesOf}
+use Rattle.numbering.specs.Types.{rulesOf}
 use Rattle.tables.specs.Tables.{inRows}
 
 abbrev to-start : tie.After-run-end → tie.Start

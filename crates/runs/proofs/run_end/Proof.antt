@@ -10,7 +10,7 @@ use Rattle.runs.specs.Runs.{isMatch, runEnd}
 use Rattle.runs.proofs.Matches.{run-over, run-stops, run-more}
 use Rattle.runs.proofs.run_end.Statement.{statement}
 use Rattle.runs.proofs.run_end.Tie as tie
-use Rattle.types.specs.Types.{rulesOf}
+use Rattle.numbering.specs.Types.{rulesOf}
 
 abbrev Inv-loop : tie.InvT-loop
 Inv-loop set bytes dir cursors stop q₀ q = (q₀ ≤ q) × (runEnd (source (rulesOf set) bytes dir cursors) q (stop - q) ≡ runEnd (source (rulesOf set) bytes dir cursors) q₀ (stop - q₀))

@@ -6,7 +6,7 @@ use borrow.Author.Needs.{needs}
 use Rattle.block.specs.Block.{spanOf}
 use Rattle.laying.specs.Passes.{World, world, stepOf, Roomy}
 use Rattle.laying.specs.Puts.{put}
-use Rattle.types.specs.Types.{numbersOf, typeNumber, rulesOf}
+use Rattle.numbering.specs.Types.{numbersOf, typeNumber, rulesOf}
 use Rattle.valueputs.specs.ValuePuts.{valuePuts}
 use Rattle.tokenputs.proofs.Laws.{choice-room, choice-ran}
 use Rattle.tokenputs.proofs.put_choice.Statement.{statement}

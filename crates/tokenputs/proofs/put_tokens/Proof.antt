@@ -7,7 +7,7 @@ use borrow.Author.Needs.{needs}
 use Rattle.splitting.proofs.Runs.{cut-range}
 use Rattle.splitting.proofs.Cuts.{cut-end}
 use Rattle.choices.proofs.Choices.{choice-within}
-use Rattle.types.specs.Types.{rulesOf}
+use Rattle.numbering.specs.Types.{rulesOf}
 use Rattle.laying.specs.Passes.{world}
 use Rattle.tokenputs.proofs.Walks.{Walking, walk-start, walk-room, walk-more, walk-last, walk-end}
 use Rattle.tokenputs.proofs.put_tokens.Statement.{statement}

@@ -13,7 +13,7 @@ use Rattle.turns.proofs.OneTurn.{turn-got, turn-ends, turn-refuses, tur
 use borrow.Author.Needs.{needs}
 use Rattle.turns.proofs.turn.Statement.{statement}
 use Rattle.turns.proofs.turn.Tie as tie
-use Rattle.types.specs.Types.{rulesOf}
+use Rattle.numbering.specs.Types.{rulesOf}
 use Rattle.tables.specs.Tables.{inRows}
 use Rattle.tables.proofs.Rows.{numbers-below}
 

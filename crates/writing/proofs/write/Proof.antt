@@ -2,7 +2,7 @@ use mathlib.Core.Path.{sym, _∙_}
 use native.Mathlib.Omega.{arith}
 use borrow.Author.Tests.{not-true, not-false}
 use denote.Ref.{now}
-use Rattle.types.specs.Types.{rulesOf}
+use Rattle.numbering.specs.Types.{rulesOf}
 use borrow.Author.Needs.{needs}
 use Rattle.writing.proofs.Laid.{countable-of, unended, too-many, refused-1, refused-12, refused-8, judged, accepted}
 use Rattle.writing.proofs.write.Statement.{statement}

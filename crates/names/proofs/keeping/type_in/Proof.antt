@@ -1,5 +1,5 @@
 use Rattle.names.specs.Names.{typeIn}
-use Rattle.types.specs.Types.{numbersOf}
+use Rattle.numbering.specs.Types.{numbersOf}
 use mathlib.Core.Path.{sym, ap, _∙_}
 use borrow.Author.Needs.{needs}
 use Rattle.names.proofs.keeping.type_in.Statement.{statement}
