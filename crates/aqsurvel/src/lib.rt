@@ -1,4 +1,5 @@
 // The C boundary: each call of the library behind a C function that hands on what it is lent.
+#![tactic(auto)]
 ghost use Rattle.std.specs.Prelude.{◌≡◌};
 ghost use Rattle.numbering.specs.Types.{rules_of, draft_plain};
 ghost use Rattle.opencalls.specs.Calls.{opens_left, open_call_lent};
@@ -23,7 +24,7 @@ pub extern "C" fn aq_open(
     cursors: &mut [u32],
     state: &mut [u32; 4],
 ) -> u64
-    ensures { opens_left result cursors state ≡ open_call_lent bytes dir count cursors state }
+    ensures { opens_left result cursors.new state.new ≡ open_call_lent bytes.now dir.now count cursors.old state.old }
 {
     opencalls::open(bytes, dir, count, cursors, state)
 }
@@ -38,7 +39,7 @@ pub extern "C" fn aq_read(
     rows: &mut [u32],
     state: &mut [u32; 4],
 ) -> u64
-    ensures { reads_left result cursors text names rows state ≡ read_call_lent (rules_of draft_plain) bytes dir cursors text names rows state }
+    ensures { reads_left result cursors.new text.new names.new rows.new state.new ≡ read_call_lent (rules_of draft_plain) bytes.now dir.now cursors.old text.old names.old rows.old state.old }
 {
     readcalls::read(DRAFT, bytes, dir, cursors, text, names, rows, state)
 }
@@ -54,7 +55,7 @@ pub extern "C" fn aq_read_block(
     rows: &mut [u32],
     state: &mut [u32; 4],
 ) -> u64
-    ensures { reads_left result cursors text names rows state ≡ block_call_lent (rules_of draft_plain) bytes dir count cursors text names rows state }
+    ensures { reads_left result cursors.new text.new names.new rows.new state.new ≡ block_call_lent (rules_of draft_plain) bytes.now dir.now count cursors.old text.old names.old rows.old state.old }
 {
     readcalls::read_block(DRAFT, bytes, dir, count, cursors, text, names, rows, state)
 }
@@ -67,7 +68,7 @@ pub extern "C" fn aq_claim(
     names: &[u32],
     state: &[u32; 4],
 ) -> u64
-    ensures { result ≡ claim_call_lent number claim text names state }
+    ensures { result ≡ claim_call_lent number claim.now text.now names.now state.now }
 {
     claimcalls::claim(number, claim, text, names, state)
 }
@@ -79,7 +80,7 @@ pub extern "C" fn aq_write(
     bytes: &mut [u8],
     totals: &mut [u32; 2],
 ) -> u64
-    ensures { writes_left result dir bytes totals ≡ write_call_lent (rules_of draft_plain) input dir bytes totals }
+    ensures { writes_left result dir.new bytes.new totals.new ≡ write_call_lent (rules_of draft_plain) input.now dir.old bytes.old totals.old }
 {
     writecalls::write(DRAFT, input, dir, bytes, totals)
 }
@@ -92,7 +93,7 @@ pub extern "C" fn aq_model_replay(
     frequencies: &mut [u32; 256],
     total: &mut u32,
 ) -> u64
-    ensures { replays_left result symbols frequencies total ≡ replay_call_lent size trace symbols frequencies total }
+    ensures { replays_left result symbols.new frequencies.new total.new ≡ replay_call_lent size trace.now symbols.old frequencies.old total.old }
 {
     modelcalls::replay(size, trace, symbols, frequencies, total)
 }

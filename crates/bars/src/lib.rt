@@ -1,4 +1,5 @@
 // The last position.
+#![tactic(auto)]
 ghost use Rattle.std.specs.Prelude.{◌≡◌};
 ghost use Rattle.bars.specs.Bars.{is_last};
 

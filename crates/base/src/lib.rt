@@ -1,13 +1,13 @@
 // What every layer stands on: choosing by a test, parts of lent memory and writes to it.
 // Nothing here knows the format.
+#![tactic(auto)]
 ghost use Rattle.std.specs.Prelude.{◌≡◌, [], ◌∷◌, ◌≤◌, ◌+◌, ◌-◌, length};
 ghost use Rattle.base.specs.Memory.{written, part};
-ghost use Rattle.base.specs.Lent.{lent, left};
 
 // One byte at a place.
 pub fn put_byte(buf: &mut [u8], at: usize, b: u8)
     requires { at + 1 ≤ length buf.old }
-    ensures { left buf ≡ written (lent buf) at (b ∷ []) }
+    ensures { buf.new ≡ written buf.old at (b ∷ []) }
 {
     buf[at] = b;
 }
@@ -15,7 +15,7 @@ pub fn put_byte(buf: &mut [u8], at: usize, b: u8)
 // One number at a place.
 pub fn put_number(table: &mut [u32], at: usize, n: u32)
     requires { at + 1 ≤ length table.old }
-    ensures { left table ≡ written (lent table) at (n ∷ []) }
+    ensures { table.new ≡ written table.old at (n ∷ []) }
 {
     table[at] = n;
 }
@@ -23,7 +23,7 @@ pub fn put_number(table: &mut [u32], at: usize, n: u32)
 // Five numbers at a place.
 pub fn put_five(table: &mut [u32], at: usize, a: u32, b: u32, c: u32, d: u32, e: u32)
     requires { at + 5 ≤ length table.old }
-    ensures { left table ≡ written (lent table) at (a ∷ b ∷ c ∷ d ∷ e ∷ []) }
+    ensures { table.new ≡ written table.old at (a ∷ b ∷ c ∷ d ∷ e ∷ []) }
 {
     table[at] = a;
     table[at + 1] = b;
@@ -35,7 +35,7 @@ pub fn put_five(table: &mut [u32], at: usize, a: u32, b: u32, c: u32, d: u32, e:
 // A part of one buffer at a place of another.
 pub fn copy_at(src: &[u8], from: usize, to: usize, dst: &mut [u8], at: usize)
     requires { (from ≤ to) × ((to ≤ length src.now) × (at + (to - from) ≤ length dst.old)) }
-    ensures { left dst ≡ written (lent dst) at (part (lent src) from to) }
+    ensures { dst.new ≡ written dst.old at (part src.now from to) }
 {
     let n = to - from;
     let mut j: usize = 0;
@@ -48,7 +48,7 @@ pub fn copy_at(src: &[u8], from: usize, to: usize, dst: &mut [u8], at: usize)
 // A part of a buffer at a later place of the same buffer.
 pub fn copy_within(buf: &mut [u8], from: usize, to: usize, at: usize)
     requires { (from ≤ to) × ((to ≤ at) × (at + (to - from) ≤ length buf.old)) }
-    ensures { left buf ≡ written (lent buf) at (part (lent buf) from to) }
+    ensures { buf.new ≡ written buf.old at (part buf.old from to) }
 {
     let n = to - from;
     let mut j: usize = 0;

@@ -1,39 +1,39 @@
 // The block: a lent run of bytes, a directory of spans with a cursor each, and a count of names.
 // Its limits, where its spans and cursors are, the judgement of both, and opening.
+#![tactic(auto)]
 ghost use Rattle.std.specs.Prelude.{◌≡◌, ℕ, ◌≤◌, ◌<◌, ◌+◌, ◌*◌, ◌^◌, leb, length};
 ghost use Rattle.block.specs.Block.{span_of, end_of, cursor_of, sound_from, sound, all_inside, verdict, verdict_of, all_at_end, starts, opening, open_of};
-ghost use Rattle.base.specs.Lent.{lent, left};
 
 use spans::{Cursor, Position};
 
 pub mod stream;
 
-#[derive(Drop)]
+#[derive(Clone, Copy)]
 pub struct Block {
     pub count: u32,
 }
 
 // What kind of block it is: it decides the numbers of the types.
-#[derive(Drop)]
+#[derive(Clone, Copy)]
 pub enum Kind {
     Draft,
 }
 
 // How its tokens are read.
-#[derive(Drop)]
+#[derive(Clone, Copy)]
 pub enum Mode {
     Plain,
 }
 
 // Which block is read or written; calls hand it on, and only what differs by kind or mode takes it apart.
-#[derive(Drop)]
+#[derive(Clone, Copy)]
 pub struct Setting {
     pub kind: Kind,
     pub mode: Mode,
 }
 
 // The count of the block, k names kept, text bytes used and rows used.
-#[derive(Drop)]
+#[derive(Clone, Copy)]
 pub struct State {
     pub count: u32,
     pub names: u32,
@@ -42,20 +42,20 @@ pub struct State {
 }
 
 // A refusal's number, and the number of the name that goes with it if there is one.
-#[derive(Drop)]
+#[derive(Clone, Copy)]
 pub enum Refusal {
     Plain(u32),
     At(u32, u32),
 }
 
-#[derive(Drop)]
+#[derive(Clone, Copy)]
 pub enum Opened {
     Fresh(State),
     Refused(Refusal),
 }
 
 // A directory that meets refusal 1; a sound one with a cursor outside its span, refusal 13; or neither.
-#[derive(Drop)]
+#[derive(Clone, Copy)]
 pub enum Verdict {
     Unsound,
     Outside,
@@ -63,7 +63,7 @@ pub enum Verdict {
 }
 
 // Counts spans, position by position. Only `span_of` makes one, so that no other index is taken for it.
-#[derive(Drop)]
+#[derive(Clone, Copy)]
 pub struct Span(pub usize);
 
 pub fn span_of(p: Position, stream: u32) -> Span
@@ -75,7 +75,7 @@ pub fn span_of(p: Position, stream: u32) -> Span
 
 pub fn end_of(dir: &[u32], span: Span) -> Cursor
     requires { (length dir.now ≡ 2580) × (span.0 < 1290) }
-    ensures { result.0 ≡ end_of (lent dir) span.0 }
+    ensures { result.0 ≡ end_of dir.now span.0 }
 {
     let i = span.0;
     Cursor(dir[2 * i + 1])
@@ -83,7 +83,7 @@ pub fn end_of(dir: &[u32], span: Span) -> Cursor
 
 pub fn cursor_of(cursors: &[u32], span: Span) -> Cursor
     requires { (length cursors.now ≡ 1290) × (span.0 < 1290) }
-    ensures { result.0 ≡ cursor_of (lent cursors) span.0 }
+    ensures { result.0 ≡ cursor_of cursors.now span.0 }
 {
     let i = span.0;
     Cursor(cursors[i])
@@ -91,7 +91,7 @@ pub fn cursor_of(cursors: &[u32], span: Span) -> Cursor
 
 // An end has 32 bits, and numbers of one width are judged faster.
 fn reach(bytes: &[u8]) -> u32
-    ensures { (end : ℕ) → end < 2 ^ 32 → leb end result ≡ leb end (length (lent bytes)) }
+    ensures { (end : ℕ) → end < 2 ^ 32 → leb end result ≡ leb end (length bytes.now) }
 {
     let n = bytes.len();
     if n < 4294967295 { n as u32 } else { 4294967295 }
@@ -100,7 +100,7 @@ fn reach(bytes: &[u8]) -> u32
 // No way out inside the loop, here and below, so that several spans are judged at a time.
 fn spans_sound(n: u32, dir: &[u32]) -> bool
     requires { length dir.now ≡ 2580 }
-    ensures { result ≡ sound_from n (lent dir) 0 1290 }
+    ensures { result ≡ sound_from n dir.now 0 1290 }
 {
     let mut ok = true;
     let mut i: usize = 0;
@@ -115,7 +115,7 @@ fn spans_sound(n: u32, dir: &[u32]) -> bool
 
 // Refusal 1 is given where this is false.
 fn sound(bytes: &[u8], dir: &[u32], cursors: &[u32]) -> bool
-    ensures { result ≡ sound (length (lent bytes)) (lent dir) (lent cursors) }
+    ensures { result ≡ sound (length bytes.now) dir.now cursors.now }
 {
     if dir.len() != Block::DIRECTORY {
         return false;
@@ -130,7 +130,7 @@ fn sound(bytes: &[u8], dir: &[u32], cursors: &[u32]) -> bool
 // start isn't above its end. Only where a span fails is it asked, in a second pass, which of 1 and 13 it is.
 fn judge_spans(n: u32, dir: &[u32], cursors: &[u32]) -> Verdict
     requires { (length dir.now ≡ 2580) × (length cursors.now ≡ 1290) }
-    ensures { result ≡ verdict (sound_from n (lent dir) 0 1290) (all_inside (lent dir) (lent cursors)) }
+    ensures { result ≡ verdict (sound_from n dir.now 0 1290) (all_inside dir.now cursors.now) }
 {
     let mut fine = true;
     let mut i: usize = 0;
@@ -153,7 +153,7 @@ fn judge_spans(n: u32, dir: &[u32], cursors: &[u32]) -> Verdict
 
 // Refusals 1 and 13, in this order.
 pub fn judge(bytes: &[u8], dir: &[u32], cursors: &[u32]) -> Verdict
-    ensures { result ≡ verdict_of (length (lent bytes)) (lent dir) (lent cursors) }
+    ensures { result ≡ verdict_of (length bytes.now) dir.now cursors.now }
 {
     if dir.len() != Block::DIRECTORY {
         return Verdict::Unsound;
@@ -167,7 +167,7 @@ pub fn judge(bytes: &[u8], dir: &[u32], cursors: &[u32]) -> Verdict
 // With all names read, "done" where this is true and refusal 10 where not.
 pub fn at_end(dir: &[u32], cursors: &[u32]) -> bool
     requires { (length dir.now ≡ 2580) × (length cursors.now ≡ 1290) }
-    ensures { result ≡ all_at_end (lent dir) (lent cursors) }
+    ensures { result ≡ all_at_end dir.now cursors.now }
 {
     let mut ok = true;
     let mut i: usize = 0;
@@ -182,7 +182,7 @@ pub fn at_end(dir: &[u32], cursors: &[u32]) -> bool
 
 fn set_starts(dir: &[u32], cursors: &mut [u32])
     requires { (length dir.now ≡ 2580) × (length cursors.old ≡ 1290) }
-    ensures { left cursors ≡ starts (lent dir) }
+    ensures { cursors.new ≡ starts dir.now }
 {
     let mut i: usize = 0;
     while i < Block::SPANS {
@@ -208,7 +208,7 @@ impl Block {
     pub const DIRECTORY: usize = 2580;
 
     pub fn open(self, bytes: &[u8], dir: &[u32], cursors: &mut [u32]) -> Opened
-        ensures { opening result (left cursors) ≡ open_of (length (lent bytes)) (lent dir) self.count (lent cursors) }
+        ensures { opening result cursors.new ≡ open_of (length bytes.now) dir.now self.count cursors.old }
     {
         let count = self.count;
         if !sound(bytes, dir, cursors) {

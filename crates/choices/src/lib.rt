@@ -1,10 +1,10 @@
 // The writer's choice for each token of a name: the token itself, a delta, MATCH or END.
+#![tactic(auto)]
 ghost use Rattle.std.specs.Prelude.{◌≡◌, ◌≤◌, ◌<◌, length};
 ghost use Rattle.classes.specs.Classes.{class_table};
 ghost use Rattle.splitting.specs.Split.{cut_of};
 ghost use Rattle.pieces.specs.Pieces.{Within};
 ghost use Rattle.choices.specs.Choices.{lean_string, lean_char, by_rise, lean_digits, by_rise0, lean_digits0, lean, choice_at};
-ghost use Rattle.base.specs.Lent.{lent};
 
 use pieces::Piece;
 use rises::Rise;
@@ -13,7 +13,7 @@ use splitting::Cut;
 use tokens::Padded;
 
 // What is written at a position.
-#[derive(Drop)]
+#[derive(Clone, Copy)]
 pub enum Choice {
     Itself(Piece),
     Delta(u8),
@@ -25,7 +25,7 @@ pub enum Choice {
 fn lean_string(name: &[u8], a: usize, e: usize, before: &[u8], u: Piece) -> Choice
     requires a_le_e { (a ≤ e) × (e ≤ length name.now) }
     requires within { Within before.now u }
-    ensures { result ≡ lean_string (lent name) a e (lent before) u }
+    ensures { result ≡ lean_string name.now a e before.now u }
 {
     match u {
         Piece::String { start, end } => {
@@ -107,7 +107,7 @@ fn lean_digits0(x: Padded, u: Piece) -> Choice
 fn lean(name: &[u8], t: Piece, before: &[u8], u: Piece) -> Choice
     requires within { Within name.now t }
     requires within_2 { Within before.now u }
-    ensures { result ≡ lean (lent name) t (lent before) u }
+    ensures { result ≡ lean name.now t before.now u }
 {
     match t {
         Piece::String { start, end } => lean_string(name, start, end, before, u),
@@ -131,7 +131,7 @@ pub fn choice_at(
 ) -> Choice
     requires table_value { table.now ≡ class_table }
     requires a_in_bounds { (a < length name.now) × ((e ≡ cut_of name.now p.0 a) × (f ≡ cut_of before.now p.0 b)) }
-    ensures { result ≡ choice_at (lent before) (lent name) p.0 a b }
+    ensures { result ≡ choice_at before.now name.now p.0 a b }
 {
     let t = pieces::piece_at(table, name, p, a, e);
     if before.len() <= b {

@@ -1,6 +1,6 @@
 -- What an exported claim answers.
 use Rattle.std.specs.Prelude.{ℕ, List}
-use Rattle.base.specs.Lent.{Buffer, lent}
+use Rattle.base.specs.Lent.{Buffer}
 use Rattle.claims.specs.Claims.{claim_of}
 use Rattle.codes.specs.Codes.{state_in}
 use Rattle.answers.specs.Answers.{verdict_number}
@@ -10,4 +10,4 @@ unfoldable pub claim_call : ℕ → List ℕ → List ℕ → List ℕ → List 
 claim_call number claim text names state = verdict_number (claim_of number claim (state_in state) text names)
 
 abbrev pub claim_call_lent : ℕ → Buffer → Buffer → Buffer → Buffer → ℕ
-claim_call_lent number claim text names state = claim_call number (lent claim) (lent text) (lent names) (lent state)
+claim_call_lent number claim text names state = claim_call number claim text names state

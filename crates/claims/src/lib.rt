@@ -1,13 +1,13 @@
 // Claims: does a name that the card returned have all the bytes of the name that was read, and nothing else?
 // A claim is handed no row table, judges nothing about rows and changes nothing.
+#![tactic(auto)]
 ghost use Rattle.std.specs.Prelude.{◌≡◌};
 ghost use Rattle.claims.specs.Claims.{claim_of};
-ghost use Rattle.base.specs.Lent.{lent};
 
 use block::{Refusal, State};
 use kept::judgement;
 
-#[derive(Drop)]
+#[derive(Clone, Copy)]
 pub enum Verdict {
     Confirmed,
     Denied,
@@ -15,7 +15,7 @@ pub enum Verdict {
 }
 
 pub fn claim(number: u32, claimed: &[u8], state: State, text: &[u8], names: &[u32]) -> Verdict
-    ensures { result ≡ claim_of number (lent claimed) state (lent text) (lent names) }
+    ensures { result ≡ claim_of number claimed.now state text.now names.now }
 {
     if !judgement::text_counts(state, text.len(), names.len()) {
         return Verdict::Refused(Refusal::Plain(13));

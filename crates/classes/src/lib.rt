@@ -1,11 +1,11 @@
 // Digit, letter or another, and allowed by SAM or not: a property of each of the 256 byte values, tabled.
 // A caller makes the table once and lends it, since a constant is built anew wherever it is read.
 // Reading asks only what SAM allows and holds no table: it compares.
+#![tactic(auto)]
 ghost use Rattle.std.specs.Prelude.{◌≡◌, ◌≤◌, leb, length};
 ghost use Rattle.base.specs.Choice.{both};
 ghost use Rattle.base.specs.Memory.{part};
 ghost use Rattle.classes.specs.Classes.{is_allowed, class_of, tabled_of, class_table, all_allowed};
-ghost use Rattle.base.specs.Lent.{lent};
 
 mod entries;
 
@@ -82,7 +82,7 @@ pub fn is_allowed(b: u8) -> bool
 // Every byte of a part is one that SAM allows, by comparison.
 pub fn all_allowed(bytes: &[u8], from: usize, to: usize) -> bool
     requires { (from ≤ to) × (to ≤ length bytes.now) }
-    ensures { result ≡ all_allowed (part (lent bytes) from to) }
+    ensures { result ≡ all_allowed (part bytes.now from to) }
 {
     let mut i = from;
     while i < to {

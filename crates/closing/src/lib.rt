@@ -1,14 +1,14 @@
 // The line that closes a listing: the totals, of names and of bytes; or the refusal, which stands alone.
+#![tactic(auto)]
 ghost use Rattle.std.specs.Prelude.{◌≡◌};
 ghost use Rattle.pages.specs.Page.{page, said, HasRoom};
 ghost use Rattle.closing.specs.Closing.{refusal_text, totals_text};
-ghost use Rattle.base.specs.Lent.{lent, left};
 
 use block::Refusal;
 
 pub fn put_refusal(out: &mut [u8], at: usize, r: Refusal) -> usize
     requires { HasRoom (refusal_text r) (page out.old at) }
-    ensures { page (left out) result ≡ said (refusal_text r) (page (lent out) at) }
+    ensures { page out.new result ≡ said (refusal_text r) (page out.old at) }
 {
     match r {
         Refusal::Plain(n) => {
@@ -25,7 +25,7 @@ pub fn put_refusal(out: &mut [u8], at: usize, r: Refusal) -> usize
 
 pub fn put_totals(out: &mut [u8], at: usize, names: u32, bytes: u32) -> usize
     requires { HasRoom (totals_text names bytes) (page out.old at) }
-    ensures { page (left out) result ≡ said (totals_text names bytes) (page (lent out) at) }
+    ensures { page out.new result ≡ said (totals_text names bytes) (page out.old at) }
 {
     let next = pages::put_number(out, at, names);
     let last = pages::put_labelled(out, next, b" names ", bytes);

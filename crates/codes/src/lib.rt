@@ -1,7 +1,7 @@
 // The numbers of the C boundary: a code with its value as one, and the state as four.
+#![tactic(auto)]
 ghost use Rattle.std.specs.Prelude.{◌≡◌};
 ghost use Rattle.codes.specs.Codes.{packed, refusal_number, state_in, state_out};
-ghost use Rattle.base.specs.Lent.{lent};
 
 use block::{Refusal, State};
 
@@ -24,7 +24,7 @@ pub fn refused(r: Refusal) -> u64
 }
 
 pub fn state_in(state: &[u32; 4]) -> State
-    ensures { result ≡ state_in (lent state) }
+    ensures { result ≡ state_in state.now }
 {
     State {
         count: state[0],

@@ -1,13 +1,13 @@
 // When two texts are the same.
+#![tactic(auto)]
 ghost use Rattle.std.specs.Prelude.{◌≡◌};
-ghost use Rattle.base.specs.Lent.{lent};
 ghost use Rattle.comparing.specs.Same.{same};
 
 // The lengths first: bytes that agree up to the shorter one are not the same. Then the last byte, where most names that
 // follow each other differ. From there on there is no way out: texts that come so far are mostly the same, and a loop
 // without one takes many bytes at once.
 pub fn same(a: &[u8], b: &[u8]) -> bool
-    ensures { result ≡ same (lent a) (lent b) }
+    ensures { result ≡ same a.now b.now }
 {
     if a.len() != b.len() {
         return false;

@@ -1,7 +1,7 @@
 -- A name that is a copy of an earlier one.
 use Rattle.std.specs.Prelude.{ℕ, ◌+◌, []}
 use Rattle.base.specs.Memory.{part}
-use Rattle.base.specs.Lent.{Buffer, left}
+use Rattle.base.specs.Lent.{Buffer}
 use Rattle.block.specs.Streams.{dup_stream}
 use Rattle.tables.specs.declared.Entry.{Entry}
 use Rattle.tables.specs.Tables.{Kept, keeping, rows_lent}
@@ -19,4 +19,4 @@ dup_of s m distance e =
 
 -- what a read leaves that is lent the rows to look at only
 abbrev pub leaves_rows : Reading → Buffer → Buffer → Buffer → Buffer → Outcome
-leaves_rows r cursors text names rows = outcome r.answer (left cursors) (keeping r.state (left text) (left names) (rows_lent rows))
+leaves_rows r cursors text names rows = outcome r.answer cursors (keeping r.state text names (rows_lent rows))

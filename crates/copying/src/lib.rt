@@ -1,4 +1,5 @@
 // A name that is a copy of an earlier one, kept with its entry.
+#![tactic(auto)]
 ghost use Rattle.std.specs.Prelude.{◌≡◌, List, ℕ, length};
 ghost use Rattle.tables.specs.Tables.{keeping, tables_lent, in_rows};
 ghost use Rattle.kept.specs.Inside.{Counted, TextInside};
@@ -6,7 +7,6 @@ ghost use Rattle.numbering.specs.Types.{Rules};
 ghost use Rattle.sources.specs.Source.{source};
 ghost use Rattle.heads.specs.Headed.{Passable};
 ghost use Rattle.copying.specs.Copies.{dup_of, leaves_rows};
-ghost use Rattle.base.specs.Lent.{lent};
 ghost use Rattle.block.specs.Streams.{dup_stream};
 
 use block::{State, stream};
@@ -27,7 +27,7 @@ pub fn copied(
     requires counted { Counted (keeping state text.old entries.old (in_rows rows.now)) }
     requires text_inside { TextInside state e }
     requires cursors_len { (length cursors.old ≡ 1290) × Passable cursors.old dup_stream }
-    ensures { (rules : Rules) (b d : List ℕ) → leaves_rows result cursors text entries rows ≡ dup_of (source rules b d (lent cursors)) (tables_lent state text entries rows) distance.0 e }
+    ensures { (rules : Rules) (b d : List ℕ) → leaves_rows result cursors.new text.new entries.new rows.now ≡ dup_of (source rules b d cursors.old) (tables_lent state text.old entries.old rows.now) distance.0 e }
 {
     let bytes = e.length;
     if entries::has_room(state, text, entries, rows, bytes, 0) {

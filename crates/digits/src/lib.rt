@@ -1,10 +1,10 @@
 // Numbers in base ten: how many digits, printed plainly or at a width, and read back.
 // How a number is printed is known here only; callers go by the laws of proofs/Laws.
+#![tactic(auto)]
 ghost use Rattle.std.specs.Prelude.{◌≡◌, true, ◌+◌, ◌*◌, ◌/◌, ◌%◌, ◌^◌, ◌≤◌, ◌<◌, length};
 ghost use Rattle.base.specs.Memory.{written};
 ghost use Rattle.digits.specs.Digits.{padded, digit_count, printed, fits_width};
 ghost use Rattle.digits.specs.Fractions.{whole, leading, Begins};
-ghost use Rattle.base.specs.Lent.{lent, left};
 
 // Numbers are printed from fractions, so that no digit takes a division; so many parts are a whole.
 const WHOLE: u64 = 1152921504606846976;
@@ -74,7 +74,7 @@ fn fraction(n: u32, w: usize) -> u64
 }
 
 // A digit as a byte, and what is left of the fraction that it led.
-#[derive(Drop)]
+#[derive(Clone, Copy)]
 struct Digit {
     byte: u8,
     rest: u64,
@@ -94,7 +94,7 @@ fn lead(f: u64) -> Digit
 // The first w digits of a fraction at a place, the leading one first.
 fn put_digits(f: u64, w: usize, buf: &mut [u8], at: usize)
     requires { (f < whole) × (at + w ≤ length buf.old) }
-    ensures { left buf ≡ written (lent buf) at (padded (leading f w) w) }
+    ensures { buf.new ≡ written buf.old at (padded (leading f w) w) }
 {
     let mut rest = f;
     let mut left = w;
@@ -111,7 +111,7 @@ fn put_digits(f: u64, w: usize, buf: &mut [u8], at: usize)
 // A number with no leading zeros at a place, and how many bytes that is.
 pub fn print(n: u32, buf: &mut [u8], at: usize) -> usize
     requires { at + length (printed n) ≤ length buf.old }
-    ensures { (result ≡ length (printed n)) × (left buf ≡ written (lent buf) at (printed n)) }
+    ensures { (result ≡ length (printed n)) × (buf.new ≡ written buf.old at (printed n)) }
 {
     let w = count(n);
     let f = fraction(n, w);
@@ -131,7 +131,7 @@ fn begun(n: u32, w: usize, rest: u64) -> u64
 // compiler calls the C library for that.
 fn put_wide(n: u32, w: usize, buf: &mut [u8], at: usize)
     requires { (10 < w) × (at + w ≤ length buf.old) }
-    ensures { left buf ≡ written (lent buf) at (padded n w) }
+    ensures { buf.new ≡ written buf.old at (padded n w) }
 {
     let end = at + w;
     let mut rest: u64 = 0;
@@ -148,7 +148,7 @@ fn put_wide(n: u32, w: usize, buf: &mut [u8], at: usize)
 // A number padded with zeros to a width, at a place.
 pub fn print_padded(n: u32, width: u32, buf: &mut [u8], at: usize)
     requires { at + width ≤ length buf.old }
-    ensures { left buf ≡ written (lent buf) at (padded n width) }
+    ensures { buf.new ≡ written buf.old at (padded n width) }
 {
     let w = width as usize;
     if 10 < w {

@@ -1,11 +1,12 @@
 // The distance of a name's head: how far back DUP and DIFF may refer.
+#![tactic(auto)]
 ghost use Rattle.std.specs.Prelude.{◌≡◌};
 ghost use Rattle.distances.specs.Distances.{dup_fits, diff_fits, dup_head, diff_head};
 
 use spans::{Distance, NextFour};
 
 // What position 0 says of a name.
-#[derive(Drop)]
+#[derive(Clone, Copy)]
 pub enum Head {
     Dup(Distance),
     Diff(Distance),

@@ -1,4 +1,5 @@
 // DUP and DIFF, with the earlier name judged or known to fit.
+#![tactic(auto)]
 ghost use Rattle.std.specs.Prelude.{◌≡◌, List, ℕ, ◌≤◌, length};
 ghost use Rattle.block.specs.Open.{Open};
 ghost use Rattle.tables.specs.Tables.{keeping, tables_lent, in_rows};
@@ -10,7 +11,6 @@ ghost use Rattle.outcomes.specs.Outcomes.{leaves};
 ghost use Rattle.heads.specs.Headed.{Passable, Headed};
 ghost use Rattle.copying.specs.Copies.{leaves_rows};
 ghost use Rattle.dupdiff.specs.Judged.{dup_judged, diff_judged};
-ghost use Rattle.base.specs.Lent.{lent};
 ghost use Rattle.block.specs.Streams.{dup_stream, diff_stream};
 
 use block::{Setting, State};
@@ -32,7 +32,7 @@ pub fn dup(
     requires le_distance { (1 ≤ distance.0) × (distance.0 ≤ state.names) }
     requires cursors_len { (length cursors.old ≡ 1290) × Passable cursors.old dup_stream }
     requires known { Known known (keeping state text.old entries.old (in_rows rows.now)) }
-    ensures { (rules : Rules) (b d : List ℕ) → leaves_rows result cursors text entries rows ≡ dup_judged (source rules b d (lent cursors)) (tables_lent state text entries rows) distance.0 }
+    ensures { (rules : Rules) (b d : List ℕ) → leaves_rows result cursors.new text.new entries.new rows.now ≡ dup_judged (source rules b d cursors.old) (tables_lent state text.old entries.old rows.now) distance.0 }
 {
     let back = state.names - distance.0;
     if earlier::fits_back(known, state, entries, rows, back) {
@@ -60,7 +60,7 @@ pub fn diff(
     requires counted { Counted (keeping state text.old entries.old (in_rows rows.old)) }
     requires headed { Headed (source (rules_of set) bytes.now dir.now cursors.old) diff_stream distance.0 state.names }
     requires known { Known known (keeping state text.old entries.old (in_rows rows.old)) }
-    ensures { leaves result cursors text entries rows ≡ diff_judged (block_lent set bytes dir cursors) (tables_lent state text entries rows) distance.0 }
+    ensures { leaves result cursors.new text.new entries.new rows.new ≡ diff_judged (block_lent set bytes.now dir.now cursors.old) (tables_lent state text.old entries.old rows.old) distance.0 }
 {
     // Asked here, so that nothing is handed on to a judgement that isn't made.
     let back = if known {

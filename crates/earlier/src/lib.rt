@@ -1,17 +1,17 @@
 // The earlier name: judged or known to fit, and the rows that DIFF goes by.
+#![tactic(auto)]
 ghost use Rattle.std.specs.Prelude.{◌≡◌, true, [], ◌+◌, ◌*◌, ◌≤◌, length};
 ghost use Rattle.tables.specs.Tables.{entry_size, keeping, entry_at, in_rows, row_room, rows_lent};
 ghost use Rattle.kept.specs.Judgement.{earlier_fits};
 ghost use Rattle.earlier.specs.Back.{said_back, back_of};
 ghost use Rattle.earlier.specs.declared.Back.TheVariants.{Rows};
-ghost use Rattle.base.specs.Lent.{lent};
 
 use block::State;
 use kept::judgement;
 use spans::Distance;
 
 // The rows that a DIFF goes by: none without an earlier name; `Outside` where the earlier name points there.
-#[derive(Drop)]
+#[derive(Clone, Copy)]
 pub enum Back {
     Rows { first: u32, count: u32 },
     Outside,
@@ -21,7 +21,7 @@ pub enum Back {
 pub fn fits_back(known: bool, state: State, entries: &[u32], rows: &[u32], back: u32) -> bool
     requires entry_size_in_bounds { (entry_size * back + entry_size ≤ length entries.now) × (state.rows ≤ row_room (in_rows rows.now)) }
     requires back_value { known ≡ true → earlier_fits (keeping state [] entries.now (in_rows rows.now)) back ≡ true }
-    ensures { result ≡ earlier_fits (keeping state [] (lent entries) (rows_lent rows)) back }
+    ensures { result ≡ earlier_fits (keeping state [] entries.now (rows_lent rows.now)) back }
 {
     if known {
         true
@@ -33,7 +33,7 @@ pub fn fits_back(known: bool, state: State, entries: &[u32], rows: &[u32], back:
 // The rows that an entry says.
 fn rows_of(entries: &[u32], i: u32) -> Back
     requires { entry_size * i + entry_size ≤ length entries.now }
-    ensures { result ≡ Rows (entry_at (lent entries) i).first (entry_at (lent entries) i).rows }
+    ensures { result ≡ Rows (entry_at entries.now i).first (entry_at entries.now i).rows }
 {
     let e = tables::entry_at(entries, i);
     Back::Rows {
@@ -47,7 +47,7 @@ fn rows_of(entries: &[u32], i: u32) -> Back
 pub fn said_back(state: State, entries: &[u32], distance: Distance) -> Back
     requires names_in_bounds { entry_size * state.names ≤ length entries.now }
     requires distance_le_names { distance.0 ≤ state.names }
-    ensures { result ≡ said_back (lent entries) state.names distance.0 }
+    ensures { result ≡ said_back entries.now state.names distance.0 }
 {
     if distance.0 == 0 {
         return Back::Rows { first: 0, count: 0 };
@@ -60,7 +60,7 @@ pub fn said_back(state: State, entries: &[u32], distance: Distance) -> Back
 pub fn leans(state: State, entries: &[u32], rows: &[u32], distance: Distance) -> Back
     requires names_in_bounds { (entry_size * state.names ≤ length entries.now) × (state.rows ≤ row_room (in_rows rows.now)) }
     requires distance_le_names { distance.0 ≤ state.names }
-    ensures { result ≡ back_of (keeping state [] (lent entries) (rows_lent rows)) distance.0 }
+    ensures { result ≡ back_of (keeping state [] entries.now (rows_lent rows.now)) distance.0 }
 {
     let d = distance.0;
     if d == 0 {

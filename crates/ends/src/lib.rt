@@ -1,11 +1,11 @@
 // A name's END: where the name is judged, that it isn't empty; where it is kept, what follows it.
+#![tactic(auto)]
 ghost use Rattle.std.specs.Prelude.{◌≡◌, true, [], ◌∷◌, ◌≤◌, ◌<◌, ◌+◌, ◌-◌, ◌^◌, length};
 ghost use Rattle.base.specs.Choice.{pick};
 ghost use Rattle.base.specs.Memory.{written};
 ghost use Rattle.block.specs.Block.{span_of, cursor_of};
 ghost use Rattle.moving.specs.Moves.{past};
 ghost use Rattle.ends.specs.Ends.{ended_of};
-ghost use Rattle.base.specs.Lent.{lent, left};
 ghost use Rattle.block.specs.Streams.{type_stream};
 
 use block::stream;
@@ -24,8 +24,8 @@ pub fn ended(
     requires le_p { ((1 ≤ p.0) × (p.0 ≤ 128)) × ((len ≤ 254) × ((used < 2 ^ 31) × (length cursors.old ≡ 1290))) }
     requires len_in_bounds { keeping ≡ true → (used + len + 1 ≤ length text.old) × (cursor_of cursors.old (span_of p.0 type_stream) + 1 < 2 ^ 32) }
     ensures value { result ≡ ended_of keeping (p.0 - 1) len }
-    ensures text_value { left text ≡ pick keeping (written (lent text) (used + len) (10 ∷ [])) (lent text) }
-    ensures cursors_value { left cursors ≡ pick keeping (past (lent cursors) (span_of p.0 type_stream) 1) (lent cursors) }
+    ensures text_value { text.new ≡ pick keeping (written text.old (used + len) (10 ∷ [])) text.old }
+    ensures cursors_value { cursors.new ≡ pick keeping (past cursors.old (span_of p.0 type_stream) 1) cursors.old }
 {
     if keeping {
         moving::move_on(cursors, p, stream::TYPE, 1);

@@ -1,16 +1,16 @@
 // The answer of a read, and a name's entry: room for it, and the state after it.
+#![tactic(auto)]
 ghost use Rattle.std.specs.Prelude.{◌≡◌, ◌+◌, ◌*◌, ◌^◌, ◌≤◌, ◌<◌, length};
 ghost use Rattle.base.specs.Memory.{written};
 ghost use Rattle.tables.specs.Tables.{entry_size, tables_lent};
 ghost use Rattle.entries.specs.Entries.{room_of, entry_of, keeping_name};
-ghost use Rattle.base.specs.Lent.{lent, left};
 
 use block::{Refusal, State};
 use spans::Distance;
 use tables::Entry;
 
 // A read keeps a name and answers its number, or finds the block at its end, or refuses.
-#[derive(Drop)]
+#[derive(Clone, Copy)]
 pub enum Answer {
     Kept(u32),
     Done,
@@ -18,7 +18,7 @@ pub enum Answer {
 }
 
 // The answer of a read, and the state after it.
-#[derive(Drop)]
+#[derive(Clone, Copy)]
 pub struct Reading {
     pub answer: Answer,
     pub state: State,
@@ -33,7 +33,7 @@ pub fn has_room(
     bytes: u32,
     added: u32,
 ) -> bool
-    ensures { result ≡ room_of (tables_lent state text entries rows) bytes added }
+    ensures { result ≡ room_of (tables_lent state text.now entries.now rows.now) bytes added }
 {
     if text.len() < (state.text as usize) + (bytes as usize) + 1 {
         return false;
@@ -57,7 +57,7 @@ pub fn enter(
     requires entry_size_in_bounds { entry_size * state.names + entry_size ≤ length entries.old }
     requires names_bound { (state.names + 1 < 2 ^ 32) × ((state.text + bytes + 1 < 2 ^ 32) × (state.rows + added < 2 ^ 32)) }
     ensures value { result ≡ keeping_name state bytes added }
-    ensures entries_value { left entries ≡ written (lent entries) (entry_size * state.names) (entry_of state bytes first rows distance.0) }
+    ensures entries_value { entries.new ≡ written entries.old (entry_size * state.names) (entry_of state bytes first rows distance.0) }
 {
     let k = state.names;
     let e = Entry {

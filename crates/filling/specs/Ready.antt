@@ -1,6 +1,6 @@
 -- What may be filled in: an input of good names, and a directory for it; and what filling leaves.
 use Rattle.std.specs.Prelude.{ℕ, ◌*◌, ◌≤◌, ◌≡◌, true, List, leb, length}
-use Rattle.base.specs.Lent.{Buffer, lent, left}
+use Rattle.base.specs.Lent.{Buffer}
 use Rattle.numbering.specs.Types.{Rules}
 use Rattle.inputs.specs.declared.Judged.TheVariants.{Fine}
 use Rattle.inputs.specs.Inputs.{names_of, ended, judged_from}
@@ -20,9 +20,9 @@ Ample = (rules : Rules) (input dir bytes : List ℕ) → Ready input dir → 6 *
 
 -- all that the names of a lent input put
 abbrev pub puts_lent : Rules → Buffer → List Put
-puts_lent rules input = puts_of rules (names_of (lent input))
+puts_lent rules input = puts_of rules (names_of input)
 
 -- the total, and the directory and the bytes that hold it
-abbrev pub Filled : Rules → ℕ → Buffer → Buffer → Buffer → Type 0
-Filled rules total directory bytes input =
-    (total ≡ total_of (puts_lent rules input)) × ((left directory ≡ directory_of (puts_lent rules input)) × (left bytes ≡ bytes_of (puts_lent rules input) (lent bytes)))
+abbrev pub Filled : Rules → ℕ → Buffer → Buffer → Buffer → Buffer → Type 0
+Filled rules total directory left bytes input =
+    (total ≡ total_of (puts_lent rules input)) × ((directory ≡ directory_of (puts_lent rules input)) × (left ≡ bytes_of (puts_lent rules input) bytes))

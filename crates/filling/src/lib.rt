@@ -1,4 +1,5 @@
 // Room for all that the names put, and the directory and the bytes filled with it.
+#![tactic(auto)]
 ghost use Rattle.std.specs.Prelude.{◌≡◌, ◌≤◌, leb, length};
 ghost use Rattle.classes.specs.Classes.{class_table};
 ghost use Rattle.numbering.specs.Types.{rules_of};
@@ -6,7 +7,6 @@ ghost use Rattle.laying.specs.Puts.{total_of};
 ghost use Rattle.inputs.specs.Inputs.{names_of};
 ghost use Rattle.nameputs.specs.NamePuts.{puts_of};
 ghost use Rattle.filling.specs.Ready.{Ready, Filled};
-ghost use Rattle.base.specs.Lent.{lent, left};
 
 use block::Setting;
 use laying::Pass;
@@ -24,7 +24,7 @@ pub fn fits(
 ) -> bool
     requires table_value { table.now ≡ class_table }
     requires ready { Ready input.now directory.old }
-    ensures { (result ≡ leb (total_of (puts_of (rules_of set) (names_of (lent input)))) (length (lent bytes))) × ((left directory ≡ lent directory) × (left bytes ≡ lent bytes)) }
+    ensures { (result ≡ leb (total_of (puts_of (rules_of set) (names_of input.now))) (length bytes.old)) × ((directory.new ≡ directory.old) × (bytes.new ≡ bytes.old)) }
 {
     if input.len() <= bytes.len() / MOST {
         return true;
@@ -44,7 +44,7 @@ pub fn fill(
     requires table_value { table.now ≡ class_table }
     requires ready { Ready input.now directory.old }
     requires input_in_bounds { total_of (puts_of (rules_of set) (names_of input.now)) ≤ length bytes.old }
-    ensures { Filled (rules_of set) result directory bytes input }
+    ensures { Filled (rules_of set) result directory.new bytes.new bytes.old input.now }
 {
     laying::clear(directory);
     nameputs::put_names(set, Pass::Sizes, directory, bytes, table, input);

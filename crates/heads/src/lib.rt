@@ -1,11 +1,11 @@
 // Position 0: DUP or DIFF, and the distance.
+#![tactic(auto)]
 ghost use Rattle.std.specs.Prelude.{◌≡◌, ◌≤◌, length};
 ghost use Rattle.block.specs.Open.{Open};
 ghost use Rattle.numbering.specs.Types.{Rules};
 ghost use Rattle.sources.specs.Source.{source, block_lent};
 ghost use Rattle.heads.specs.Headed.{Passable};
 ghost use Rattle.heads.specs.Heads.{distance_in, head_of, head_past};
-ghost use Rattle.base.specs.Lent.{lent, left};
 
 use block::{Setting, stream};
 use distances::Head;
@@ -14,7 +14,7 @@ use spans::{NextByte, NextFour, Position};
 fn distance_in(bytes: &[u8], dir: &[u32], cursors: &[u32], stream: u32) -> NextFour
     requires fact { Open bytes.now dir.now cursors.now }
     requires stream_bound { stream ≤ 9 }
-    ensures { (rules : Rules) → result ≡ distance_in (source rules (lent bytes) (lent dir) (lent cursors)) stream }
+    ensures { (rules : Rules) → result ≡ distance_in (source rules bytes.now dir.now cursors.now) stream }
 {
     sources::four_in(bytes, dir, cursors, Position(0), stream)
 }
@@ -22,7 +22,7 @@ fn distance_in(bytes: &[u8], dir: &[u32], cursors: &[u32], stream: u32) -> NextF
 // Name n's.
 pub fn head(set: Setting, bytes: &[u8], dir: &[u32], cursors: &[u32], n: u32) -> Head
     requires { Open bytes.now dir.now cursors.now }
-    ensures { result ≡ head_of (block_lent set bytes dir cursors) n }
+    ensures { result ≡ head_of (block_lent set bytes.now dir.now cursors.now) n }
 {
     match sources::byte_in(bytes, dir, cursors, Position(0), stream::TYPE) {
         NextByte::Value(t, _) => {
@@ -43,7 +43,7 @@ pub fn head(set: Setting, bytes: &[u8], dir: &[u32], cursors: &[u32], n: u32) ->
 pub fn move_head(cursors: &mut [u32], stream: u32)
     requires cursors_len { (length cursors.old ≡ 1290) × ((1 ≤ stream) × (stream ≤ 9)) }
     requires passable { Passable cursors.old stream }
-    ensures { left cursors ≡ head_past (lent cursors) stream }
+    ensures { cursors.new ≡ head_past cursors.old stream }
 {
     moving::move_on(cursors, Position(0), stream::TYPE, 1);
     moving::move_on(cursors, Position(0), stream, 4);

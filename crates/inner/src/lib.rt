@@ -1,5 +1,6 @@
 // The inner read: one name, where the block is known to be open and the counts to be judged;
 // the earlier name too, where all that is kept is known to fit and to be spelt: from opening on that stays so.
+#![tactic(auto)]
 ghost use Rattle.std.specs.Prelude.{◌≡◌, length};
 ghost use Rattle.block.specs.Open.{Open};
 ghost use Rattle.block.specs.Block.{all_at_end};
@@ -9,7 +10,6 @@ ghost use Rattle.sources.specs.Source.{block_lent};
 ghost use Rattle.earlier.specs.Fits.{Known};
 ghost use Rattle.outcomes.specs.Outcomes.{finishing, leaves};
 ghost use Rattle.inner.specs.Next.{next_of};
-ghost use Rattle.base.specs.Lent.{lent};
 
 use block::{Refusal, Setting, State};
 use distances::Head;
@@ -18,7 +18,7 @@ use entries::{Answer, Reading};
 // With all names read.
 fn finish(dir: &[u32], cursors: &[u32], state: State) -> Reading
     requires { (length dir.now ≡ 2580) × (length cursors.now ≡ 1290) }
-    ensures { result ≡ finishing state (all_at_end (lent dir) (lent cursors)) }
+    ensures { result ≡ finishing state (all_at_end dir.now cursors.now) }
 {
     if block::at_end(dir, cursors) {
         Reading {
@@ -47,7 +47,7 @@ pub fn next(
     requires fact { Open bytes.now dir.now cursors.old }
     requires counted { Counted (keeping state text.old entries.old (in_rows rows.old)) }
     requires known { Known known (keeping state text.old entries.old (in_rows rows.old)) }
-    ensures { leaves result cursors text entries rows ≡ next_of (block_lent set bytes dir cursors) (tables_lent state text entries rows) }
+    ensures { leaves result cursors.new text.new entries.new rows.new ≡ next_of (block_lent set bytes.now dir.now cursors.old) (tables_lent state text.old entries.old rows.old) }
 {
     let k = state.names;
     if k == state.count {

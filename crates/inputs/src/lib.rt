@@ -1,8 +1,8 @@
 // The names of an input, found by their byte 10, counted and judged.
+#![tactic(auto)]
 ghost use Rattle.std.specs.Prelude.{◌≡◌, true, ◌≤◌, ◌<◌, ◌+◌, ◌-◌, [], length, drop};
 ghost use Rattle.classes.specs.Classes.{class_table};
 ghost use Rattle.inputs.specs.Inputs.{NameAt, AllowedTo, names_after, names_of, ended, judged_from};
-ghost use Rattle.base.specs.Lent.{lent};
 
 use block::Block;
 
@@ -11,7 +11,7 @@ use block::Block;
 const PART: usize = 224;
 
 // The first name that SAM does not allow, if there is one.
-#[derive(Drop)]
+#[derive(Clone, Copy)]
 pub enum Judged {
     Fine,
     Bad(u32),
@@ -20,7 +20,7 @@ pub enum Judged {
 // Where the name that starts at a place ends.
 pub fn name_end(input: &[u8], at: usize) -> usize
     requires { (at < length input.now) × (ended input.now ≡ true) }
-    ensures { NameAt (lent input) at result }
+    ensures { NameAt input.now at result }
 {
     let mut i = at;
     while input[i] != 10 {
@@ -30,7 +30,7 @@ pub fn name_end(input: &[u8], at: usize) -> usize
 }
 
 pub fn all_ended(input: &[u8]) -> bool
-    ensures { result ≡ ended (lent input) }
+    ensures { result ≡ ended input.now }
 {
     let n = input.len();
     if n == 0 {
@@ -42,7 +42,7 @@ pub fn all_ended(input: &[u8]) -> bool
 // How many names end in a part of the input, counted in a byte: such a loop over bytes takes many of them at once.
 fn ends_in(input: &[u8], from: usize, to: usize) -> u8
     requires { (from ≤ to) × ((to ≤ length input.now) × (to - from ≤ 255)) }
-    ensures { (result ≤ to - from) × (result + length (names_after [] (drop to (lent input))) ≡ length (names_after [] (drop from (lent input)))) }
+    ensures { (result ≤ to - from) × (result + length (names_after [] (drop to input.now)) ≡ length (names_after [] (drop from input.now))) }
 {
     let mut n: u8 = 0;
     let mut i = from;
@@ -57,7 +57,7 @@ fn ends_in(input: &[u8], from: usize, to: usize) -> u8
 
 // How many names there are, part by part.
 pub fn count(input: &[u8]) -> usize
-    ensures { result ≡ length (names_of (lent input)) }
+    ensures { result ≡ length (names_of input.now) }
 {
     let mut n: usize = 0;
     let mut i: usize = 0;
@@ -72,7 +72,7 @@ pub fn count(input: &[u8]) -> usize
 fn allowed_end(table: &[u8; 256], input: &[u8], at: usize) -> usize
     requires table_value { table.now ≡ class_table }
     requires at_in_bounds { (at < length input.now) × (ended input.now ≡ true) }
-    ensures { AllowedTo (lent input) at result }
+    ensures { AllowedTo input.now at result }
 {
     let mut i = at;
     while classes::allowed_in(table, input[i]) {
@@ -85,7 +85,7 @@ fn allowed_end(table: &[u8; 256], input: &[u8], at: usize) -> usize
 pub fn judge(table: &[u8; 256], input: &[u8]) -> Judged
     requires table_value { table.now ≡ class_table }
     requires input_value { (ended input.now ≡ true) × (length (names_of input.now) ≤ 65536) }
-    ensures { result ≡ judged_from 0 (names_of (lent input)) }
+    ensures { result ≡ judged_from 0 (names_of input.now) }
 {
     let mut n: u32 = 0;
     let mut start: usize = 0;

@@ -3,7 +3,6 @@
 ghost use Rattle.std.specs.Prelude.{◌≡◌, [], ◌≤◌, ◌+◌, ◌*◌, ◌/◌, length};
 ghost use Rattle.tables.specs.Tables.{entry_size, row_size, in_rows, row_room, keeping, rows_lent, tables_lent};
 ghost use Rattle.kept.specs.Judgement.{text_counts, row_counts, counts, entry_text, entry_rows, row_kind, row_fits, rows_fit, earlier_fits};
-ghost use Rattle.base.specs.Lent.{lent};
 
 use block::{Block, State};
 use tables::{Entry, Row};
@@ -33,7 +32,7 @@ fn row_counts(s: State, numbers: usize) -> bool
 }
 
 pub fn counts(s: State, text: &[u8], names: &[u32], rows: &[u32]) -> bool
-    ensures { result ≡ counts (tables_lent s text names rows) }
+    ensures { result ≡ counts (tables_lent s text.now names.now rows.now) }
 {
     text_counts(s, text.len(), names.len()) & row_counts(s, rows.len())
 }
@@ -73,7 +72,7 @@ pub fn row_fits(used: u32, r: Row) -> bool
 // No way out inside the loop: in a sound table every row is looked at.
 pub fn rows_fit(used: u32, rows: &[u32], first: u32, many: u32) -> bool
     requires { (first + many ≤ 4294967295) × (first + many ≤ row_room (in_rows rows.now)) }
-    ensures { result ≡ rows_fit used (rows_lent rows) first many }
+    ensures { result ≡ rows_fit used (rows_lent rows.now) first many }
 {
     let end = first + many;
     let mut ok = true;
@@ -88,7 +87,7 @@ pub fn rows_fit(used: u32, rows: &[u32], first: u32, many: u32) -> bool
 // The text itself isn't looked at: the judgement is the same whatever it holds.
 pub fn earlier_fits(s: State, names: &[u32], rows: &[u32], i: u32) -> bool
     requires { (entry_size * i + entry_size ≤ length names.now) × (s.rows ≤ row_room (in_rows rows.now)) }
-    ensures { result ≡ earlier_fits (keeping s [] (lent names) (rows_lent rows)) i }
+    ensures { result ≡ earlier_fits (keeping s [] names.now (rows_lent rows.now)) i }
 {
     let e = tables::entry_at(names, i);
     if entry_text(s, e) & entry_rows(s, e) {

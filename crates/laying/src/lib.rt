@@ -1,5 +1,6 @@
 // Bytes put into spans: sizes counted, spans laid one after another in directory order with no gaps, then filled.
 // Nothing here knows names or tokens.
+#![tactic(auto)]
 ghost use Rattle.std.specs.Prelude.{◌≡◌, true, [], ◌∷◌, ◌++◌, ◌≤◌, ◌<◌, ◌+◌, ◌-◌, ◌^◌, length};
 ghost use Rattle.base.specs.Choice.{pick};
 ghost use Rattle.base.specs.Memory.{written, part};
@@ -7,12 +8,11 @@ ghost use Rattle.spans.specs.Spans.{four_bytes};
 ghost use Rattle.block.specs.Block.{end_of};
 ghost use Rattle.laying.specs.Puts.{put};
 ghost use Rattle.laying.specs.Passes.{counts, fills, moved, world, step_of, Room, cleared, offset_in, places_of};
-ghost use Rattle.base.specs.Lent.{lent, left};
 
 use block::{Block, Span};
 
 // What a pass over the puts does: it finds the total, counts each span's size, or fills.
-#[derive(Drop)]
+#[derive(Clone, Copy)]
 pub enum Pass {
     Total,
     Sizes,
@@ -42,7 +42,7 @@ fn fills_in(pass: Pass) -> bool
 // A span's end moved n bytes on.
 fn advance(pass: Pass, directory: &mut [u32], span: Span, n: u32)
     requires { (span.0 < 1290) × ((length directory.old ≡ 2580) × (counts pass ≡ true → end_of directory.old span.0 + n < 2 ^ 32)) }
-    ensures { left directory ≡ pick (counts pass) (moved (lent directory) span.0 n) (lent directory) }
+    ensures { directory.new ≡ pick (counts pass) (moved directory.old span.0 n) directory.old }
 {
     if counts_in(pass) {
         let k = span.0;
@@ -54,7 +54,7 @@ fn advance(pass: Pass, directory: &mut [u32], span: Span, n: u32)
 
 fn write_byte(pass: Pass, bytes: &mut [u8], at: usize, b: u8)
     requires { fills pass ≡ true → at + 1 ≤ length bytes.old }
-    ensures { left bytes ≡ pick (fills pass) (written (lent bytes) at (b ∷ [])) (lent bytes) }
+    ensures { bytes.new ≡ pick (fills pass) (written bytes.old at (b ∷ [])) bytes.old }
 {
     if fills_in(pass) {
         base::put_byte(bytes, at, b);
@@ -64,7 +64,7 @@ fn write_byte(pass: Pass, bytes: &mut [u8], at: usize, b: u8)
 // The low byte first.
 fn four_at(bytes: &mut [u8], at: usize, v: u32)
     requires { at + 4 ≤ length bytes.old }
-    ensures { left bytes ≡ written (lent bytes) at (four_bytes v) }
+    ensures { bytes.new ≡ written bytes.old at (four_bytes v) }
 {
     bytes[at] = (v % 256) as u8;
     bytes[at + 1] = (v / 256 % 256) as u8;
@@ -74,7 +74,7 @@ fn four_at(bytes: &mut [u8], at: usize, v: u32)
 
 fn write_four(pass: Pass, bytes: &mut [u8], at: usize, v: u32)
     requires { fills pass ≡ true → at + 4 ≤ length bytes.old }
-    ensures { left bytes ≡ pick (fills pass) (written (lent bytes) at (four_bytes v)) (lent bytes) }
+    ensures { bytes.new ≡ pick (fills pass) (written bytes.old at (four_bytes v)) bytes.old }
 {
     if fills_in(pass) {
         four_at(bytes, at, v);
@@ -84,7 +84,7 @@ fn write_four(pass: Pass, bytes: &mut [u8], at: usize, v: u32)
 // A text and its zero byte.
 fn text_at(bytes: &mut [u8], at: usize, name: &[u8], from: usize, to: usize)
     requires { (from ≤ to) × ((to ≤ length name.now) × (at + (to - from + 1) ≤ length bytes.old)) }
-    ensures { left bytes ≡ written (lent bytes) at (part (lent name) from to ++ 0 ∷ []) }
+    ensures { bytes.new ≡ written bytes.old at (part name.now from to ++ 0 ∷ []) }
 {
     base::copy_at(name, from, to, bytes, at);
     base::put_byte(bytes, at + (to - from), 0);
@@ -93,7 +93,7 @@ fn text_at(bytes: &mut [u8], at: usize, name: &[u8], from: usize, to: usize)
 fn write_text(pass: Pass, bytes: &mut [u8], at: usize, name: &[u8], from: usize, to: usize)
     requires from_le_to { (from ≤ to) × (to ≤ length name.now) }
     requires from_in_bounds { fills pass ≡ true → at + (to - from + 1) ≤ length bytes.old }
-    ensures { left bytes ≡ pick (fills pass) (written (lent bytes) at (part (lent name) from to ++ 0 ∷ [])) (lent bytes) }
+    ensures { bytes.new ≡ pick (fills pass) (written bytes.old at (part name.now from to ++ 0 ∷ [])) bytes.old }
 {
     if fills_in(pass) {
         text_at(bytes, at, name, from, to);
@@ -109,7 +109,7 @@ pub fn put_byte(
     b: u8,
 ) -> u32
     requires { Room pass span.0 1 (world total directory.old bytes.old) }
-    ensures { world result (left directory) (left bytes) ≡ step_of pass (put span.0 (b ∷ [])) (world total (lent directory) (lent bytes)) }
+    ensures { world result directory.new bytes.new ≡ step_of pass (put span.0 (b ∷ [])) (world total directory.old bytes.old) }
 {
     let k = span.0;
     let at = directory[2 * k + 1] as usize;
@@ -127,7 +127,7 @@ pub fn put_four(
     v: u32,
 ) -> u32
     requires { Room pass span.0 4 (world total directory.old bytes.old) }
-    ensures { world result (left directory) (left bytes) ≡ step_of pass (put span.0 (four_bytes v)) (world total (lent directory) (lent bytes)) }
+    ensures { world result directory.new bytes.new ≡ step_of pass (put span.0 (four_bytes v)) (world total directory.old bytes.old) }
 {
     let k = span.0;
     let at = directory[2 * k + 1] as usize;
@@ -148,7 +148,7 @@ pub fn put_text(
 ) -> u32
     requires from_le_to { (from ≤ to) × (to ≤ length name.now) }
     requires room { Room pass span.0 (to - from + 1) (world total directory.old bytes.old) }
-    ensures { world result (left directory) (left bytes) ≡ step_of pass (put span.0 (part (lent name) from to ++ 0 ∷ [])) (world total (lent directory) (lent bytes)) }
+    ensures { world result directory.new bytes.new ≡ step_of pass (put span.0 (part name.now from to ++ 0 ∷ [])) (world total directory.old bytes.old) }
 {
     let k = span.0;
     let at = directory[2 * k + 1] as usize;
@@ -161,7 +161,7 @@ pub fn put_text(
 // A directory of empty spans.
 pub fn clear(directory: &mut [u32])
     requires { length directory.old ≡ 2580 }
-    ensures { left directory ≡ cleared }
+    ensures { directory.new ≡ cleared }
 {
     let mut i: usize = 0;
     while i < directory.len() {
@@ -173,7 +173,7 @@ pub fn clear(directory: &mut [u32])
 // Sizes made places: each span's start, and its end where its first byte goes.
 pub fn lay_out(directory: &mut [u32])
     requires { (length directory.old ≡ 2580) × (offset_in directory.old 1290 < 2 ^ 32) }
-    ensures { left directory ≡ places_of (lent directory) }
+    ensures { directory.new ≡ places_of directory.old }
 {
     let mut at: u32 = 0;
     let mut i: usize = 0;

@@ -1,5 +1,6 @@
 // The leaves, exported for tests: printing, widths, classes, what stands at a cursor, the judgement of the tables; and the listing.
 // Not for users: the library's own boundary is another crate.
+#![tactic(auto)]
 ghost use Rattle.std.specs.Prelude.{◌≡◌, true, ◌+◌, leb, length};
 ghost use Rattle.base.specs.Choice.{pick, both};
 ghost use Rattle.digits.specs.Digits.{printed, padded, fits_width};
@@ -8,7 +9,6 @@ ghost use Rattle.spans.specs.Spans.{byte_at, four_at, text_at};
 ghost use Rattle.block.specs.Block.{sound, all_inside};
 ghost use Rattle.listed.specs.Listing.{listed_of};
 ghost use Rattle.leaves.specs.Leaves.{nothing, leaves, placed, byte_number, four_left, text_number};
-ghost use Rattle.base.specs.Lent.{lent, left};
 
 use block::Verdict;
 use spans::{Cursor, NextByte, NextFour, NextText};
@@ -26,7 +26,7 @@ fn has_room(len: usize, at: usize, n: usize) -> bool
 
 #[unsafe(no_mangle)]
 pub extern "C" fn leaf_print(n: u32, buf: &mut [u8], at: usize) -> u64
-    ensures { leaves result (left buf) ≡ placed true (printed n) at (lent buf) }
+    ensures { leaves result buf.new ≡ placed true (printed n) at buf.old }
 {
     let w = digits::count(n);
     if has_room(buf.len(), at, w) {
@@ -38,7 +38,7 @@ pub extern "C" fn leaf_print(n: u32, buf: &mut [u8], at: usize) -> u64
 
 #[unsafe(no_mangle)]
 pub extern "C" fn leaf_print_padded(n: u32, width: u32, buf: &mut [u8], at: usize) -> u64
-    ensures { leaves result (left buf) ≡ placed (both (leb width 254) (fits_width n width)) (padded n width) at (lent buf) }
+    ensures { leaves result buf.new ≡ placed (both (leb width 254) (fits_width n width)) (padded n width) at buf.old }
 {
     if 254 < width {
         return NOTHING;
@@ -69,7 +69,7 @@ pub extern "C" fn leaf_class(b: u8) -> u32
 
 #[unsafe(no_mangle)]
 pub extern "C" fn leaf_byte(bytes: &[u8], at: u32, end: u32) -> u64
-    ensures { result ≡ pick (leb end (length (lent bytes))) (byte_number (byte_at (lent bytes) at end)) nothing }
+    ensures { result ≡ pick (leb end (length bytes.now)) (byte_number (byte_at bytes.now at end)) nothing }
 {
     if bytes.len() < end as usize {
         return NOTHING;
@@ -82,7 +82,7 @@ pub extern "C" fn leaf_byte(bytes: &[u8], at: u32, end: u32) -> u64
 
 #[unsafe(no_mangle)]
 pub extern "C" fn leaf_four(bytes: &[u8], at: u32, end: u32, next: &mut [u32; 1]) -> u64
-    ensures { leaves result (left next) ≡ pick (leb end (length (lent bytes))) (four_left (lent next) (four_at (lent bytes) at end)) (leaves nothing (lent next)) }
+    ensures { leaves result next.new ≡ pick (leb end (length bytes.now)) (four_left next.old (four_at bytes.now at end)) (leaves nothing next.old) }
 {
     if bytes.len() < end as usize {
         return NOTHING;
@@ -98,7 +98,7 @@ pub extern "C" fn leaf_four(bytes: &[u8], at: u32, end: u32, next: &mut [u32; 1]
 
 #[unsafe(no_mangle)]
 pub extern "C" fn leaf_text(bytes: &[u8], at: u32, end: u32) -> u64
-    ensures { result ≡ pick (leb end (length (lent bytes))) (text_number (text_at (lent bytes) at end)) nothing }
+    ensures { result ≡ pick (leb end (length bytes.now)) (text_number (text_at bytes.now at end)) nothing }
 {
     if bytes.len() < end as usize {
         return NOTHING;
@@ -115,7 +115,7 @@ pub extern "C" fn leaf_text(bytes: &[u8], at: u32, end: u32) -> u64
 
 #[unsafe(no_mangle)]
 pub extern "C" fn leaf_judge(bytes: &[u8], directory: &[u32], cursors: &[u32]) -> u32
-    ensures { result ≡ pick (sound (length (lent bytes)) (lent directory) (lent cursors)) (pick (all_inside (lent directory) (lent cursors)) 0 13) 1 }
+    ensures { result ≡ pick (sound (length bytes.now) directory.now cursors.now) (pick (all_inside directory.now cursors.now) 0 13) 1 }
 {
     match block::judge(bytes, directory, cursors) {
         Verdict::Unsound => 1,
@@ -127,7 +127,7 @@ pub extern "C" fn leaf_judge(bytes: &[u8], directory: &[u32], cursors: &[u32]) -
 // The listing of an input, which users have as a program; nothing where the buffer may not have room for it.
 #[unsafe(no_mangle)]
 pub extern "C" fn leaf_list(input: &[u8], out: &mut [u8]) -> u64
-    ensures { leaves result (left out) ≡ placed (leb 131072 (length (lent out))) (listed_of (lent input)) 0 (lent out) }
+    ensures { leaves result out.new ≡ placed (leb 131072 (length out.old)) (listed_of input.now) 0 out.old }
 {
     if out.len() < 131072 {
         return NOTHING;

@@ -1,4 +1,5 @@
 // A line a name: its number, DIFF or DUP with the distance, then each token as written.
+#![tactic(auto)]
 ghost use Rattle.std.specs.Prelude.{◌≡◌, true, ◌++◌, ◌≤◌, length};
 ghost use Rattle.digits.specs.Digits.{printed};
 ghost use Rattle.classes.specs.Classes.{class_table};
@@ -7,7 +8,6 @@ ghost use Rattle.inputs.specs.Inputs.{names_of, ended};
 ghost use Rattle.texts.specs.Words.{diff_word};
 ghost use Rattle.pages.specs.Page.{page, said, HasRoom};
 ghost use Rattle.lines.specs.Lines.{tokens_text, name_text, line_of, lines_of};
-ghost use Rattle.base.specs.Lent.{lent, left};
 
 use choices::Choice;
 use references::Reference;
@@ -17,7 +17,7 @@ use spans::{Distance, Position};
 fn put_tokens(out: &mut [u8], at: usize, table: &[u8; 256], before: &[u8], name: &[u8]) -> usize
     requires table_value { table.now ≡ class_table }
     requires has_room { HasRoom (tokens_text name.now (choices_of before.now name.now)) (page out.old at) }
-    ensures { page (left out) result ≡ said (tokens_text (lent name) (choices_of (lent before) (lent name))) (page (lent out) at) }
+    ensures { page out.new result ≡ said (tokens_text name.now (choices_of before.now name.now)) (page out.old at) }
 {
     let mut next = at;
     let mut p: u32 = 1;
@@ -46,7 +46,7 @@ fn put_diff(
 ) -> usize
     requires table_value { table.now ≡ class_table }
     requires has_room { HasRoom ((diff_word ++ printed distance.0) ++ tokens_text name.now (choices_of before.now name.now)) (page out.old at) }
-    ensures { page (left out) result ≡ said ((diff_word ++ printed distance.0) ++ tokens_text (lent name) (choices_of (lent before) (lent name))) (page (lent out) at) }
+    ensures { page out.new result ≡ said ((diff_word ++ printed distance.0) ++ tokens_text name.now (choices_of before.now name.now)) (page out.old at) }
 {
     let next = pages::put_labelled(out, at, b" DIFF ", distance.0);
     put_tokens(out, next, table, before, name)
@@ -62,7 +62,7 @@ fn put_name(
 ) -> usize
     requires table_value { table.now ≡ class_table }
     requires has_room { HasRoom (name_text n before.now name.now) (page out.old at) }
-    ensures { page (left out) result ≡ said (name_text n (lent before) (lent name)) (page (lent out) at) }
+    ensures { page out.new result ≡ said (name_text n before.now name.now) (page out.old at) }
 {
     match references::reference_of(n, before, name) {
         Reference::Dup(d) => pages::put_labelled(out, at, b" DUP ", d.0),
@@ -80,7 +80,7 @@ fn put_line(
 ) -> usize
     requires table_value { table.now ≡ class_table }
     requires has_room { HasRoom (line_of n before.now name.now) (page out.old at) }
-    ensures { page (left out) result ≡ said (line_of n (lent before) (lent name)) (page (lent out) at) }
+    ensures { page out.new result ≡ said (line_of n before.now name.now) (page out.old at) }
 {
     let next = pages::put_number(out, at, n);
     let last = put_name(out, next, table, n, before, name);
@@ -91,7 +91,7 @@ pub fn put_lines(out: &mut [u8], table: &[u8; 256], input: &[u8]) -> usize
     requires table_value { table.now ≡ class_table }
     requires input_value { (ended input.now ≡ true) × (length (names_of input.now) ≤ 65536) }
     requires has_room { HasRoom (lines_of (names_of input.now)) (page out.old 0) }
-    ensures { page (left out) result ≡ said (lines_of (names_of (lent input))) (page (lent out) 0) }
+    ensures { page out.new result ≡ said (lines_of (names_of input.now)) (page out.old 0) }
 {
     let mut at: usize = 0;
     let mut n: u32 = 0;

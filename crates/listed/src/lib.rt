@@ -1,4 +1,5 @@
 // The listing of an input: a line a name, as the writer writes it, and the totals; or the writer's refusal.
+#![tactic(auto)]
 ghost use Rattle.std.specs.Prelude.{◌≡◌, ◌≤◌, length};
 ghost use Rattle.base.specs.Memory.{written};
 ghost use Rattle.classes.specs.Classes.{class_table};
@@ -8,7 +9,6 @@ ghost use Rattle.inputs.specs.Inputs.{names_of};
 ghost use Rattle.nameputs.specs.NamePuts.{puts_of};
 ghost use Rattle.pages.specs.Page.{page, said, HasRoom};
 ghost use Rattle.listed.specs.Listing.{listed_of, Good};
-ghost use Rattle.base.specs.Lent.{lent, left};
 
 use block::{Block, Kind, Mode, Refusal, Setting};
 use inputs::Judged;
@@ -21,7 +21,7 @@ const MOST: usize = 4096;
 fn total(table: &[u8; 256], input: &[u8]) -> u32
     requires table_value { table.now ≡ class_table }
     requires good { Good input.now }
-    ensures { result ≡ total_of (puts_of (rules_of draft_plain) (names_of (lent input))) }
+    ensures { result ≡ total_of (puts_of (rules_of draft_plain) (names_of input.now)) }
 {
     let set = Setting {
         kind: Kind::Draft,
@@ -37,7 +37,7 @@ fn put_listing(out: &mut [u8], table: &[u8; 256], input: &[u8]) -> usize
     requires good { Good input.now }
     requires has_room { HasRoom (listed_of input.now) (page out.old 0) }
     requires input_len_bound { length input.now ≤ 4096 }
-    ensures { page (left out) result ≡ said (listed_of (lent input)) (page (lent out) 0) }
+    ensures { page out.new result ≡ said (listed_of input.now) (page out.old 0) }
 {
     let next = lines::put_lines(out, table, input);
     let names = inputs::count(input) as u32;
@@ -47,7 +47,7 @@ fn put_listing(out: &mut [u8], table: &[u8; 256], input: &[u8]) -> usize
 
 fn put_listed(out: &mut [u8], input: &[u8]) -> usize
     requires { HasRoom (listed_of input.now) (page out.old 0) }
-    ensures { page (left out) result ≡ said (listed_of (lent input)) (page (lent out) 0) }
+    ensures { page out.new result ≡ said (listed_of input.now) (page out.old 0) }
 {
     if MOST < input.len() {
         return closing::put_refusal(out, 0, Refusal::Plain(9));
@@ -65,7 +65,7 @@ fn put_listed(out: &mut [u8], input: &[u8]) -> usize
 // What the program prints for an input; every listing has enough of this room.
 pub fn list(input: &[u8], out: &mut [u8]) -> usize
     requires { 131072 ≤ length out.old }
-    ensures { (result ≡ length (listed_of (lent input))) × (left out ≡ written (lent out) 0 (listed_of (lent input))) }
+    ensures { (result ≡ length (listed_of input.now)) × (out.new ≡ written out.old 0 (listed_of input.now)) }
 {
     put_listed(out, input)
 }

@@ -1,7 +1,7 @@
 // The adaptive model's table: its start, and what one symbol that was seen does to it.
 // The functions work on as many places as the table has; whoever calls them lends no more.
+#![tactic(auto)]
 ghost use Rattle.std.specs.Prelude.{◌≡◌, ℕ, ◌≤◌, ◌<◌, ◌^◌, List, length};
-ghost use Rattle.base.specs.Lent.{lent, left};
 ghost use Rattle.model.specs.Model.{model, places, started, place_of, halves, sum, settled, raised, step_at};
 ghost use Rattle.model.specs.Sound.{Sound};
 
@@ -24,7 +24,7 @@ impl Model {
 
 pub fn start(symbols: &mut [u32], frequencies: &mut [u32])
     requires { (length symbols.old ≤ places) × (length frequencies.old ≡ length symbols.old) }
-    ensures { model (left symbols) (left frequencies) (length (lent symbols)) ≡ started (length (lent symbols)) }
+    ensures { model symbols.new frequencies.new (length symbols.old) ≡ started (length symbols.old) }
 {
     let mut i: usize = 0;
     while i < symbols.len() {
@@ -36,7 +36,7 @@ pub fn start(symbols: &mut [u32], frequencies: &mut [u32])
 
 // As many as there are places, if the symbol stands at none.
 pub fn place_of(symbols: &[u32], symbol: u8) -> usize
-    ensures { result ≡ place_of (lent symbols) symbol }
+    ensures { result ≡ place_of symbols.now symbol }
 {
     let sought = symbol as u32;
     let mut i: usize = 0;
@@ -52,7 +52,7 @@ pub fn place_of(symbols: &[u32], symbol: u8) -> usize
 // Each less its half rounded down. The answer is the sum of what they become.
 fn halve(frequencies: &mut [u32]) -> u32
     requires { sum frequencies.old < 2 ^ 32 }
-    ensures { (left frequencies ≡ halves (lent frequencies)) × (result ≡ sum (halves (lent frequencies))) }
+    ensures { (frequencies.new ≡ halves frequencies.old) × (result ≡ sum (halves frequencies.old)) }
 {
     let mut total: u32 = 0;
     let mut i: usize = 0;
@@ -70,7 +70,7 @@ fn halve(frequencies: &mut [u32]) -> u32
 // The symbol at a place exchanged with its neighbour towards place 0, if its frequency is the larger one.
 fn move_up(symbols: &mut [u32], frequencies: &mut [u32], at: usize)
     requires { (at < length symbols.old) × (length frequencies.old ≡ length symbols.old) }
-    ensures { (t : ℕ) → model (left symbols) (left frequencies) t ≡ raised (model (lent symbols) (lent frequencies) t) at }
+    ensures { (t : ℕ) → model symbols.new frequencies.new t ≡ raised (model symbols.old frequencies.old t) at }
 {
     if at == 0 {
         return;
@@ -91,7 +91,7 @@ fn move_up(symbols: &mut [u32], frequencies: &mut [u32], at: usize)
 // Halved if the total is above the most that it may be. The answer is the total afterwards.
 fn settle(frequencies: &mut [u32], total: u32) -> u32
     requires { total ≡ sum frequencies.old }
-    ensures { (s : List ℕ) → model s (left frequencies) result ≡ settled (model s (lent frequencies) total) }
+    ensures { (s : List ℕ) → model s frequencies.new result ≡ settled (model s frequencies.old total) }
 {
     if total <= Model::MOST {
         return total;
@@ -102,7 +102,7 @@ fn settle(frequencies: &mut [u32], total: u32) -> u32
 // One symbol seen, at its place. The answer is the total afterwards.
 pub fn step(symbols: &mut [u32], frequencies: &mut [u32], total: u32, at: usize) -> u32
     requires { Sound (length symbols.old) (model symbols.old frequencies.old total) × (at < length symbols.old) }
-    ensures { model (left symbols) (left frequencies) result ≡ step_at (model (lent symbols) (lent frequencies) total) at }
+    ensures { model symbols.new frequencies.new result ≡ step_at (model symbols.old frequencies.old total) at }
 {
     frequencies[at] = frequencies[at] + Model::GROWTH;
     let settled = settle(frequencies, total + Model::GROWTH);

@@ -1,7 +1,7 @@
 -- What the exported replay leaves: its number and the model.
 -- The contract names the call's own buffers: what is left in them (`..Left`) is what the definition gives of what they are lent with (`..Lent`).
 use Rattle.std.specs.Prelude.{ℕ, List}
-use Rattle.base.specs.Lent.{Buffer, lent}
+use Rattle.base.specs.Lent.{Buffer}
 use Rattle.model.specs.declared.Model.{Model}
 use Rattle.replays.specs.declared.Replayed.{Replayed}
 use Rattle.replays.specs.declared.Replayed.TheVariants as replayed
@@ -30,4 +30,4 @@ unfoldable pub replay_call : ℕ → List ℕ → Model → Replays
 replay_call size trace m = replays_of (replay_of size trace m)
 
 abbrev pub replay_call_lent : ℕ → Buffer → Buffer → Buffer → Number → Replays
-replay_call_lent size trace symbols frequencies total = replay_call size (lent trace) (model_lent symbols frequencies total)
+replay_call_lent size trace symbols frequencies total = replay_call size trace (model_lent symbols frequencies total)

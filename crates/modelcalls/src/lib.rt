@@ -1,4 +1,5 @@
 // A replay as a C function leaves it: the answer one number, and the record taken apart.
+#![tactic(auto)]
 ghost use Rattle.std.specs.Prelude.{◌≡◌};
 ghost use Rattle.modelcalls.specs.Calls.{replays_left, replay_call_lent};
 
@@ -11,7 +12,7 @@ pub fn replay(
     frequencies: &mut [u32; 256],
     total: &mut u32,
 ) -> u64
-    ensures { replays_left result symbols frequencies total ≡ replay_call_lent size trace symbols frequencies total }
+    ensures { replays_left result symbols.new frequencies.new total.new ≡ replay_call_lent size trace.now symbols.old frequencies.old total.old }
 {
     match replays::replay(size, trace, symbols, frequencies, total) {
         Replayed::Whole => codes::pack(0, 0),

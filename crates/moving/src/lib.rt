@@ -1,8 +1,8 @@
 // The cursors past what a name has read.
+#![tactic(auto)]
 ghost use Rattle.std.specs.Prelude.{◌≡◌, ◌≤◌, ◌<◌, ◌+◌, ◌^◌, length, set};
 ghost use Rattle.block.specs.Block.{span_of, cursor_of};
 ghost use Rattle.moving.specs.Moves.{past, value_past, Movable};
-ghost use Rattle.base.specs.Lent.{lent, left};
 ghost use Rattle.block.specs.Streams.{type_stream, digits0_stream, dzlen_stream};
 
 use block::stream;
@@ -13,7 +13,7 @@ use spans::{Cursor, Position};
 pub fn move_on(cursors: &mut [u32], p: Position, stream: u32, n: u32)
     requires cursors_len { (length cursors.old ≡ 1290) × ((p.0 ≤ 128) × (stream ≤ 9)) }
     requires n_bound { cursor_of cursors.old (span_of p.0 stream) + n < 2 ^ 32 }
-    ensures { left cursors ≡ past (lent cursors) (span_of p.0 stream) n }
+    ensures { cursors.new ≡ past cursors.old (span_of p.0 stream) n }
 {
     let span = block::span_of(p, stream);
     let i = span.0;
@@ -23,7 +23,7 @@ pub fn move_on(cursors: &mut [u32], p: Position, stream: u32, n: u32)
 
 fn move_to(cursors: &mut [u32], p: Position, stream: u32, c: Cursor)
     requires { (length cursors.old ≡ 1290) × ((p.0 ≤ 128) × (stream ≤ 9)) }
-    ensures { left cursors ≡ set (lent cursors) (span_of p.0 stream) c.0 }
+    ensures { cursors.new ≡ set cursors.old (span_of p.0 stream) c.0 }
 {
     let span = block::span_of(p, stream);
     let i = span.0;
@@ -34,7 +34,7 @@ fn move_to(cursors: &mut [u32], p: Position, stream: u32, c: Cursor)
 fn move_padded(cursors: &mut [u32], p: Position, c: Cursor)
     requires cursors_len { (length cursors.old ≡ 1290) × (p.0 ≤ 128) }
     requires dzlen_stream_bound { cursor_of cursors.old (span_of p.0 dzlen_stream) + 1 < 2 ^ 32 }
-    ensures { left cursors ≡ past (set (lent cursors) (span_of p.0 digits0_stream) c.0) (span_of p.0 dzlen_stream) 1 }
+    ensures { cursors.new ≡ past (set cursors.old (span_of p.0 digits0_stream) c.0) (span_of p.0 dzlen_stream) 1 }
 {
     move_to(cursors, p, stream::DIGITS0, c);
     move_on(cursors, p, stream::DZLEN, 1);
@@ -43,7 +43,7 @@ fn move_padded(cursors: &mut [u32], p: Position, c: Cursor)
 fn move_value(cursors: &mut [u32], p: Position, t: TokenType, c: Cursor)
     requires cursors_len { (length cursors.old ≡ 1290) × (p.0 ≤ 128) }
     requires movable { Movable t p.0 cursors.old }
-    ensures { left cursors ≡ value_past t p.0 c.0 (lent cursors) }
+    ensures { cursors.new ≡ value_past t p.0 c.0 cursors.old }
 {
     match t {
         TokenType::String => move_to(cursors, p, stream::STRING, c),
@@ -63,7 +63,7 @@ pub fn advance(cursors: &mut [u32], p: Position, t: TokenType, c: Cursor)
     requires cursors_len { (length cursors.old ≡ 1290) × (p.0 ≤ 128) }
     requires type_stream_bound { cursor_of cursors.old (span_of p.0 type_stream) + 1 < 2 ^ 32 }
     requires movable { Movable t p.0 cursors.old }
-    ensures { left cursors ≡ value_past t p.0 c.0 (past (lent cursors) (span_of p.0 type_stream) 1) }
+    ensures { cursors.new ≡ value_past t p.0 c.0 (past cursors.old (span_of p.0 type_stream) 1) }
 {
     move_on(cursors, p, stream::TYPE, 1);
     move_value(cursors, p, t, c);

@@ -1,11 +1,11 @@
 // What each name puts into the spans, for whatever the pass does with it.
+#![tactic(auto)]
 ghost use Rattle.std.specs.Prelude.{◌≡◌, true, ◌≤◌, ◌<◌, ◌+◌, length};
 ghost use Rattle.classes.specs.Classes.{class_table};
 ghost use Rattle.numbering.specs.Types.{rules_of};
 ghost use Rattle.laying.specs.Passes.{world, run_of, Roomy};
 ghost use Rattle.inputs.specs.Inputs.{names_of, ended};
 ghost use Rattle.nameputs.specs.NamePuts.{head_puts, diff_puts, name_puts, puts_of};
-ghost use Rattle.base.specs.Lent.{lent, left};
 
 use block::{Setting, stream};
 use laying::Pass;
@@ -24,7 +24,7 @@ fn put_head(
 ) -> u32
     requires stream_bound { stream ≤ 9 }
     requires roomy { Roomy pass (head_puts number stream distance.0) (world total directory.old bytes.old) }
-    ensures { world result (left directory) (left bytes) ≡ run_of pass (head_puts number stream distance.0) (world total (lent directory) (lent bytes)) }
+    ensures { world result directory.new bytes.new ≡ run_of pass (head_puts number stream distance.0) (world total directory.old bytes.old) }
 {
     let types = block::span_of(Position(0), stream::TYPE);
     let next = laying::put_byte(pass, total, directory, bytes, types, number);
@@ -45,7 +45,7 @@ fn put_diff(
 ) -> u32
     requires table_value { table.now ≡ class_table }
     requires roomy { Roomy pass (diff_puts (rules_of set) distance.0 before.now name.now) (world total directory.old bytes.old) }
-    ensures { world result (left directory) (left bytes) ≡ run_of pass (diff_puts (rules_of set) distance.0 (lent before) (lent name)) (world total (lent directory) (lent bytes)) }
+    ensures { world result directory.new bytes.new ≡ run_of pass (diff_puts (rules_of set) distance.0 before.now name.now) (world total directory.old bytes.old) }
 {
     let kind = set.kind;
     let number = numbering::diff_number(kind);
@@ -74,7 +74,7 @@ fn put_name(
 ) -> u32
     requires table_value { table.now ≡ class_table }
     requires roomy { Roomy pass (name_puts (rules_of set) n before.now name.now) (world total directory.old bytes.old) }
-    ensures { world result (left directory) (left bytes) ≡ run_of pass (name_puts (rules_of set) n (lent before) (lent name)) (world total (lent directory) (lent bytes)) }
+    ensures { world result directory.new bytes.new ≡ run_of pass (name_puts (rules_of set) n before.now name.now) (world total directory.old bytes.old) }
 {
     match references::reference_of(n, before, name) {
         Reference::Dup(d) => {
@@ -108,7 +108,7 @@ pub fn put_names(
     requires table_value { table.now ≡ class_table }
     requires input_value { (ended input.now ≡ true) × (length (names_of input.now) ≤ 65536) }
     requires roomy { Roomy pass (puts_of (rules_of set) (names_of input.now)) (world 0 directory.old bytes.old) }
-    ensures { world result (left directory) (left bytes) ≡ run_of pass (puts_of (rules_of set) (names_of (lent input))) (world 0 (lent directory) (lent bytes)) }
+    ensures { world result directory.new bytes.new ≡ run_of pass (puts_of (rules_of set) (names_of input.now)) (world 0 directory.old bytes.old) }
 {
     let mut total: u32 = 0;
     let mut n: u32 = 0;

@@ -8,7 +8,7 @@ use Rattle.tokens.specs.Tokens.{bytes_of, row_of}
 use Rattle.names.specs.Names.{Draft, Named, named}
 use Rattle.moving.specs.Moves.{past, value_past}
 use Rattle.names.specs.Judge.{draft_of}
-use Rattle.base.specs.Lent.{Buffer, lent, left}
+use Rattle.base.specs.Lent.{Buffer}
 use Rattle.block.specs.Streams.{type_stream}
 use Rattle.tables.specs.Tables.{Table, row_room, put_rows, rows_lent, rows_left}
 
@@ -43,7 +43,7 @@ pub record Roomy (n : Named) (below used row : ℕ) (text : List ℕ) (rows : Ta
 
 -- the memory that a call is lent, and the memory that it leaves
 abbrev pub memory_lent : Buffer → Buffer → Buffer → Memory
-memory_lent text rows cursors = memory (lent text) (rows_lent rows) (lent cursors)
+memory_lent text rows cursors = memory text (rows_lent rows) cursors
 
 abbrev pub memory_left : Buffer → Buffer → Buffer → Memory
-memory_left text rows cursors = memory (left text) (rows_left rows) (left cursors)
+memory_left text rows cursors = memory text (rows_left rows) cursors

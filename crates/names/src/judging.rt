@@ -3,7 +3,6 @@ ghost use Rattle.std.specs.Prelude.{◌≡◌, ◌≤◌};
 ghost use Rattle.tokens.specs.Tokens.{bytes_of, length_of};
 ghost use Rattle.tokens.specs.Inside.{Inside};
 ghost use Rattle.names.specs.Names.{printable};
-ghost use Rattle.base.specs.Lent.{lent};
 
 use block::Block;
 use tokens::Token;
@@ -12,7 +11,7 @@ use tokens::Token;
 pub fn prints(t: Token, length: u32, bytes: &[u8], text: &[u8], before: u32) -> bool
     requires length_len { (length ≡ length_of t) × (before ≤ 254) }
     requires inside { Inside bytes.now text.now t }
-    ensures { result ≡ printable (bytes_of (lent bytes) (lent text) t) before }
+    ensures { result ≡ printable (bytes_of bytes.now text.now t) before }
 {
     if Block::BYTES - before < length {
         return false;

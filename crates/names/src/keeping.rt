@@ -7,7 +7,6 @@ ghost use Rattle.tokens.specs.Inside.{Inside, KeptBelow};
 ghost use Rattle.names.specs.Names.{type_in};
 ghost use Rattle.moving.specs.Moves.{Movable};
 ghost use Rattle.names.specs.Keeps.{put_token, memory_lent, memory_left};
-ghost use Rattle.base.specs.Lent.{lent};
 ghost use Rattle.block.specs.Streams.{type_stream};
 ghost use Rattle.tables.specs.Tables.{in_rows, row_room};
 
@@ -47,7 +46,7 @@ pub fn keep_token(
     requires cursors_len { (length cursors.old ≡ 1290) × ((p.0 ≤ 128) × (cursor_of cursors.old (span_of p.0 type_stream) + 1 < 2 ^ 32)) }
     requires movable { Movable ty p.0 cursors.old }
     ensures value { result ≡ length_of t }
-    ensures cursors_value { memory_left text rows cursors ≡ put_token (lent bytes) (memory_lent text rows cursors) t ty p.0 c.0 at row }
+    ensures cursors_value { memory_left text.new rows.new cursors.new ≡ put_token bytes.now (memory_lent text.old rows.old cursors.old) t ty p.0 c.0 at row }
 {
     let len = tokens::put(t, bytes, text, at as usize);
     tokens::put_row(t, len, rows, row as usize, at);

@@ -1,9 +1,10 @@
 // What a name is, and a token of it: judged over what is lent and not written, or kept, which can't fail any more.
+#![tactic(auto)]
 pub mod judging;
 pub mod keeping;
 
 // What is judged of a name: how many rows and bytes it has, or its refusal.
-#[derive(Drop)]
+#[derive(Clone, Copy)]
 pub enum Judged {
     Name { rows: u32, length: u32 },
     Refused(u32),

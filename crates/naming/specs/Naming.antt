@@ -1,6 +1,6 @@
 -- A name read over the rows of an earlier one.
 use Rattle.std.specs.Prelude.{ℕ}
-use Rattle.base.specs.Lent.{Buffer, lent}
+use Rattle.base.specs.Lent.{Buffer}
 use Rattle.block.specs.declared.Setting.{Setting}
 use Rattle.block.specs.declared.State.{State}
 use Rattle.block.specs.Streams.{diff_stream}
@@ -22,4 +22,4 @@ diff_of s m distance e = named_of s m distance (name_of s e m.state.text (head_p
 -- the same over what a call is lent
 abbrev pub diff_of_lent : Setting → Buffer → Buffer → Buffer → Buffer → Buffer → Buffer → State → ℕ → ℕ → ℕ → Outcome
 diff_of_lent set bytes dir cursors text entries rows state distance first count =
-    diff_of (block_lent set bytes dir cursors) (tables_lent state text entries rows) distance (earlier (lent text) (rows_lent rows) first count)
+    diff_of (block_lent set bytes dir cursors) (tables_lent state text entries rows) distance (earlier text (rows_lent rows) first count)

@@ -1,4 +1,5 @@
 // A name read over the rows of an earlier one, kept with its entry.
+#![tactic(auto)]
 ghost use Rattle.std.specs.Prelude.{◌≡◌, ◌+◌, ◌≤◌};
 ghost use Rattle.block.specs.Open.{Open};
 ghost use Rattle.tables.specs.Tables.{keeping, in_rows};
@@ -37,7 +38,7 @@ pub fn named(
     requires rows { Rows state.text (earlier text.old (in_rows rows.old) first count) × (first + count ≤ state.rows) }
     requires headed { Headed (source (rules_of set) bytes.now dir.now cursors.old) diff_stream distance.0 state.names }
     requires repeats { Repeats known (earlier text.old (in_rows rows.old) first count) }
-    ensures { leaves result cursors text entries rows ≡ diff_of_lent set bytes dir cursors text entries rows state distance.0 first count }
+    ensures { leaves result cursors.new text.new entries.new rows.new ≡ diff_of_lent set bytes.now dir.now cursors.old text.old entries.old rows.old state distance.0 first count }
 {
     let mut keeping = false;
     loop {

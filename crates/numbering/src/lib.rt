@@ -1,11 +1,12 @@
 // The types of tokens, as the stream says them: the numbers that a kind of block gives them, there and back.
+#![tactic(auto)]
 ghost use Rattle.std.specs.Prelude.{◌≡◌};
 ghost use Rattle.numbering.specs.Types.{draft_numbers, numbers_of, type_of, type_number};
 
 use block::Kind;
 
 // What a type byte says. Document 01's table, and `Other` for a byte that is not in it.
-#[derive(Drop)]
+#[derive(Clone, Copy)]
 pub enum TokenType {
     String,
     Char,

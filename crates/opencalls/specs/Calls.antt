@@ -1,7 +1,7 @@
 -- What the exported opening leaves: its number, the cursors and the state.
 -- The contract names the call's own buffers: what is left in them (`..Left`) is what the definition gives of what they are lent with (`..Lent`).
 use Rattle.std.specs.Prelude.{ℕ, List, length}
-use Rattle.base.specs.Lent.{Buffer, lent, left}
+use Rattle.base.specs.Lent.{Buffer}
 use Rattle.block.specs.declared.Opened.{Opened}
 use Rattle.block.specs.declared.Opened.TheVariants as opened
 use Rattle.block.specs.Block.{Opening, open_of}
@@ -20,7 +20,7 @@ abbrev pub opens : ℕ → List ℕ → List ℕ → Opens
 opens n c s = record { number = n; cursors = c; state = s }
 
 abbrev pub opens_left : ℕ → Buffer → Buffer → Opens
-opens_left n cursors state = opens n (left cursors) (left state)
+opens_left n cursors state = opens n cursors state
 
 -- a refused opening leaves the state
 unfoldable pub opened_state : List ℕ → Opened → List ℕ
@@ -34,4 +34,4 @@ unfoldable pub open_call : List ℕ → List ℕ → ℕ → List ℕ → List �
 open_call bytes dir count cursors state = opens_of state (open_of (length bytes) dir count cursors)
 
 abbrev pub open_call_lent : Buffer → Buffer → ℕ → Buffer → Buffer → Opens
-open_call_lent bytes dir count cursors state = open_call (lent bytes) (lent dir) count (lent cursors) (lent state)
+open_call_lent bytes dir count cursors state = open_call bytes dir count cursors state

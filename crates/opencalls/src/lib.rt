@@ -1,5 +1,6 @@
 // Opening as a C function leaves it: the answer one number, the state as four.
 // A refused call leaves what it may write as it was, the state too.
+#![tactic(auto)]
 ghost use Rattle.std.specs.Prelude.{◌≡◌};
 ghost use Rattle.opencalls.specs.Calls.{opens_left, open_call_lent};
 
@@ -12,7 +13,7 @@ pub fn open(
     cursors: &mut [u32],
     state: &mut [u32; 4],
 ) -> u64
-    ensures { opens_left result cursors state ≡ open_call_lent bytes directory count cursors state }
+    ensures { opens_left result cursors.new state.new ≡ open_call_lent bytes.now directory.now count cursors.old state.old }
 {
     let b = Block { count: count };
     match b.open(bytes, directory, cursors) {

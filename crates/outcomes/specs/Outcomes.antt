@@ -9,7 +9,7 @@ use Rattle.entries.specs.declared.Reading.{Reading}
 use Rattle.entries.specs.declared.Answer.{Answer}
 use Rattle.entries.specs.declared.Answer.TheVariants as answer
 use Rattle.entries.specs.Entries.{reading}
-use Rattle.base.specs.Lent.{Buffer, left}
+use Rattle.base.specs.Lent.{Buffer}
 
 -- what a read leaves: its answer, the cursors, and what is kept
 pub record Outcome : Type 0 where
@@ -40,4 +40,4 @@ at_name s m r = outcome (answer.Refused (refusal.At r m.state.names)) s.cur m
 
 -- what a read leaves
 abbrev pub leaves : Reading → Buffer → Buffer → Buffer → Buffer → Outcome
-leaves r cursors text names rows = outcome r.answer (left cursors) (keeping r.state (left text) (left names) (rows_left rows))
+leaves r cursors text names rows = outcome r.answer cursors (keeping r.state text names (rows_left rows))

@@ -1,15 +1,15 @@
 // A text put behind what is written: bytes, a part of a name, a number, a word with its number.
 // Each function puts a text behind what is written and answers the place behind it.
+#![tactic(auto)]
 ghost use Rattle.std.specs.Prelude.{◌≡◌, ◌++◌, ◌≤◌, length};
 ghost use Rattle.base.specs.Memory.{part};
 ghost use Rattle.digits.specs.Digits.{printed};
 ghost use Rattle.pages.specs.Page.{page, said, HasRoom};
-ghost use Rattle.base.specs.Lent.{lent, left};
 
 pub fn put_part(out: &mut [u8], at: usize, name: &[u8], from: usize, to: usize) -> usize
     requires from_le_to { (from ≤ to) × (to ≤ length name.now) }
     requires has_room { HasRoom (part name.now from to) (page out.old at) }
-    ensures { page (left out) result ≡ said (part (lent name) from to) (page (lent out) at) }
+    ensures { page out.new result ≡ said (part name.now from to) (page out.old at) }
 {
     base::copy_at(name, from, to, out, at);
     at + (to - from)
@@ -17,14 +17,14 @@ pub fn put_part(out: &mut [u8], at: usize, name: &[u8], from: usize, to: usize) 
 
 pub fn put(out: &mut [u8], at: usize, text: &[u8]) -> usize
     requires { HasRoom text.now (page out.old at) }
-    ensures { page (left out) result ≡ said (lent text) (page (lent out) at) }
+    ensures { page out.new result ≡ said text.now (page out.old at) }
 {
     put_part(out, at, text, 0, text.len())
 }
 
 pub fn put_number(out: &mut [u8], at: usize, n: u32) -> usize
     requires { HasRoom (printed n) (page out.old at) }
-    ensures { page (left out) result ≡ said (printed n) (page (lent out) at) }
+    ensures { page out.new result ≡ said (printed n) (page out.old at) }
 {
     let w = digits::print(n, out, at);
     at + w
@@ -32,7 +32,7 @@ pub fn put_number(out: &mut [u8], at: usize, n: u32) -> usize
 
 pub fn put_labelled(out: &mut [u8], at: usize, word: &[u8], n: u32) -> usize
     requires { HasRoom (word.now ++ printed n) (page out.old at) }
-    ensures { page (left out) result ≡ said (lent word ++ printed n) (page (lent out) at) }
+    ensures { page out.new result ≡ said (word.now ++ printed n) (page out.old at) }
 {
     let next = put(out, at, word);
     put_number(out, next, n)

@@ -1,7 +1,7 @@
 -- What an exported read and an exported whole block leave: the number, the cursors, the buffers and the state.
 -- A contract names the call's own buffers: what is left in them (`..Left`) is what the definition gives of what they are lent with (`..Lent`).
 use Rattle.std.specs.Prelude.{ℕ, List}
-use Rattle.base.specs.Lent.{Buffer, lent, left}
+use Rattle.base.specs.Lent.{Buffer}
 use Rattle.numbering.specs.Types.{Rules}
 use Rattle.tables.specs.Tables.{keeping, Table, rows_lent, rows_left}
 use Rattle.sources.specs.Source.{source}
@@ -23,7 +23,7 @@ abbrev pub reads : ℕ → List ℕ → List ℕ → List ℕ → Table → List
 reads n c t e r s = record { number = n; cursors = c; text = t; names = e; rows = r; state = s }
 
 abbrev pub reads_left : ℕ → Buffer → Buffer → Buffer → Buffer → Buffer → Reads
-reads_left n cursors text names rows state = reads n (left cursors) (left text) (left names) (rows_left rows) (left state)
+reads_left n cursors text names rows state = reads n cursors text names (rows_left rows) state
 
 unfoldable pub reads_of : Outcome → Reads
 reads_of o = reads
@@ -39,11 +39,11 @@ read_call rules bytes dir cursors text names rows state = reads_of (read_of (sou
 
 abbrev pub read_call_lent : Rules → Buffer → Buffer → Buffer → Buffer → Buffer → Buffer → Buffer → Reads
 read_call_lent rules bytes dir cursors text names rows state =
-    read_call rules (lent bytes) (lent dir) (lent cursors) (lent text) (lent names) (rows_lent rows) (lent state)
+    read_call rules bytes dir cursors text names (rows_lent rows) state
 
 unfoldable pub block_call : Rules → List ℕ → List ℕ → ℕ → List ℕ → List ℕ → List ℕ → Table → List ℕ → Reads
 block_call rules bytes dir count cursors text names rows state = reads_of (block_of (source rules bytes dir cursors) (keeping (state_in state) text names rows) count)
 
 abbrev pub block_call_lent : Rules → Buffer → Buffer → ℕ → Buffer → Buffer → Buffer → Buffer → Buffer → Reads
 block_call_lent rules bytes dir count cursors text names rows state =
-    block_call rules (lent bytes) (lent dir) count (lent cursors) (lent text) (lent names) (rows_lent rows) (lent state)
+    block_call rules bytes dir count cursors text names (rows_lent rows) state

@@ -1,21 +1,21 @@
 // The reader of one span: a small thing that holds the bytes left to it and gives the next byte, the next four or a text.
 // Few functions take it, and each only takes it apart; callers with bytes and cursors use byte_in, four_in and text_in.
+#![tactic(auto)]
 ghost use Rattle.std.specs.Prelude.{◌≡◌, ◌≤◌, length};
 ghost use Rattle.base.specs.Memory.{part};
 ghost use Rattle.spans.specs.Spans.{byte_at, four_at, text_at};
 ghost use Rattle.readers.specs.Readers.{left_end, byte_of, four_of, text_of};
-ghost use Rattle.base.specs.Lent.{lent, left};
 
 use spans::{Cursor, NextByte, NextFour, NextText};
 
-#[derive(Drop)]
+#[derive(Clone, Copy)]
 pub struct SpanReader<'a> {
     pub left: &'a [u8],
 }
 
 // A cursor counts in 32 bits, and a slice may be longer.
 fn left_end(left: &[u8]) -> Cursor
-    ensures { result.0 ≡ left_end (lent left) }
+    ensures { result.0 ≡ left_end left.now }
 {
     if left.len() <= 4294967295 {
         return Cursor(left.len() as u32);
@@ -25,19 +25,19 @@ fn left_end(left: &[u8]) -> Cursor
 
 // What a reader is asked, on its bytes. Its cursors count from the first of them.
 fn byte_of(left: &[u8]) -> NextByte
-    ensures { result ≡ byte_of (lent left) }
+    ensures { result ≡ byte_of left.now }
 {
     Cursor(0).next_byte(left, left_end(left))
 }
 
 fn four_of(left: &[u8]) -> NextFour
-    ensures { result ≡ four_of (lent left) }
+    ensures { result ≡ four_of left.now }
 {
     Cursor(0).next_four(left, left_end(left))
 }
 
 fn text_of(left: &[u8]) -> NextText
-    ensures { result ≡ text_of (lent left) }
+    ensures { result ≡ text_of left.now }
 {
     Cursor(0).next_text(left, left_end(left))
 }
@@ -68,19 +68,19 @@ pub fn text_to_zero<'a>(r: SpanReader<'a>) -> NextText
 
 // A reader is made and asked once.
 fn first_byte(left: &[u8]) -> NextByte
-    ensures { result ≡ byte_of (lent left) }
+    ensures { result ≡ byte_of left.now }
 {
     next_byte(reader_of(left))
 }
 
 fn first_four(left: &[u8]) -> NextFour
-    ensures { result ≡ four_of (lent left) }
+    ensures { result ≡ four_of left.now }
 {
     next_four(reader_of(left))
 }
 
 fn first_text(left: &[u8]) -> NextText
-    ensures { result ≡ text_of (lent left) }
+    ensures { result ≡ text_of left.now }
 {
     text_to_zero(reader_of(left))
 }
@@ -88,7 +88,7 @@ fn first_text(left: &[u8]) -> NextText
 // The bytes that a cursor leaves of a span.
 fn left_of(bytes: &[u8], at: Cursor, end: Cursor) -> &[u8]
     requires { (at.0 ≤ end.0) × (end.0 ≤ length bytes.now) }
-    ensures { result.now ≡ part (lent bytes) at.0 end.0 }
+    ensures { result.now ≡ part bytes.now at.0 end.0 }
 {
     let from = at.0 as usize;
     let to = end.0 as usize;
@@ -97,7 +97,7 @@ fn left_of(bytes: &[u8], at: Cursor, end: Cursor) -> &[u8]
 
 pub fn byte_in(bytes: &[u8], at: Cursor, end: Cursor) -> NextByte
     requires { (at.0 ≤ end.0) × (end.0 ≤ length bytes.now) }
-    ensures { result ≡ byte_at (lent bytes) at.0 end.0 }
+    ensures { result ≡ byte_at bytes.now at.0 end.0 }
 {
     match first_byte(left_of(bytes, at, end)) {
         NextByte::Value(b, next) => NextByte::Value(b, Cursor(at.0 + next.0)),
@@ -107,7 +107,7 @@ pub fn byte_in(bytes: &[u8], at: Cursor, end: Cursor) -> NextByte
 
 pub fn four_in(bytes: &[u8], at: Cursor, end: Cursor) -> NextFour
     requires { (at.0 ≤ end.0) × (end.0 ≤ length bytes.now) }
-    ensures { result ≡ four_at (lent bytes) at.0 end.0 }
+    ensures { result ≡ four_at bytes.now at.0 end.0 }
 {
     match first_four(left_of(bytes, at, end)) {
         NextFour::Value(v, next) => NextFour::Value(v, Cursor(at.0 + next.0)),
@@ -117,7 +117,7 @@ pub fn four_in(bytes: &[u8], at: Cursor, end: Cursor) -> NextFour
 
 pub fn text_in(bytes: &[u8], at: Cursor, end: Cursor) -> NextText
     requires { (at.0 ≤ end.0) × (end.0 ≤ length bytes.now) }
-    ensures { result ≡ text_at (lent bytes) at.0 end.0 }
+    ensures { result ≡ text_at bytes.now at.0 end.0 }
 {
     match first_text(left_of(bytes, at, end)) {
         NextText::Bytes {

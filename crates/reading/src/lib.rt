@@ -1,5 +1,6 @@
 // Reading: one name judged and then kept, one name a call, and a whole block.
 // What the public calls judge is what the inner read requires, so that a whole block judges it once.
+#![tactic(auto)]
 ghost use Rattle.std.specs.Prelude.{◌≡◌};
 ghost use Rattle.tables.specs.Tables.{tables_lent};
 ghost use Rattle.sources.specs.Source.{block_lent};
@@ -22,7 +23,7 @@ pub fn read(
     rows: &mut [u32],
     state: State,
 ) -> Reading
-    ensures { leaves result cursors text entries rows ≡ read_of (block_lent set bytes dir cursors) (tables_lent state text entries rows) }
+    ensures { leaves result cursors.new text.new entries.new rows.new ≡ read_of (block_lent set bytes.now dir.now cursors.old) (tables_lent state text.old entries.old rows.old) }
 {
     match block::judge(bytes, dir, cursors) {
         Verdict::Unsound => outcomes::refuse_plain(1, state),
@@ -49,7 +50,7 @@ pub fn read_block(
     rows: &mut [u32],
     state: State,
 ) -> Reading
-    ensures { leaves result cursors text entries rows ≡ block_of (block_lent set bytes dir cursors) (tables_lent state text entries rows) count }
+    ensures { leaves result cursors.new text.new entries.new rows.new ≡ block_of (block_lent set bytes.now dir.now cursors.old) (tables_lent state text.old entries.old rows.old) count }
 {
     let b = Block { count: count };
     match b.open(bytes, dir, cursors) {

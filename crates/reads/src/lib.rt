@@ -1,4 +1,5 @@
 // Reads one after another, each of them the inner read.
+#![tactic(auto)]
 ghost use Rattle.std.specs.Prelude.{◌≡◌};
 ghost use Rattle.base.specs.Choice.{both};
 ghost use Rattle.block.specs.Open.{Open};
@@ -44,7 +45,7 @@ pub fn reads(
     requires fact { Open bytes.now dir.now cursors.old }
     requires counted { Counted (keeping state text.old entries.old (in_rows rows.old)) }
     requires known { Known whole (keeping state text.old entries.old (in_rows rows.old)) }
-    ensures { leaves result cursors text entries rows ≡ whole_or_one whole (block_lent set bytes dir cursors) (tables_lent state text entries rows) }
+    ensures { leaves result cursors.new text.new entries.new rows.new ≡ whole_or_one whole (block_lent set bytes.now dir.now cursors.old) (tables_lent state text.old entries.old rows.old) }
 {
     let mut so_far = state;
     loop {

@@ -1,6 +1,6 @@
 // The model as one record, lent: it is taken apart, and its parts are lent on.
+#![tactic(auto)]
 ghost use Rattle.std.specs.Prelude.{◌≡◌};
-ghost use Rattle.base.specs.Lent.{lent};
 ghost use Rattle.model.specs.Sound.{Sound};
 ghost use Rattle.replays.specs.Replays.{replaying, table_in, step_of, replay_of};
 
@@ -8,7 +8,7 @@ use model::Model;
 use replays::Replayed;
 
 pub fn replay(m: &mut Model, size: u32, trace: &[u8]) -> Replayed
-    ensures { replaying result m.new ≡ replay_of size (lent trace) m.old }
+    ensures { replaying result m.new ≡ replay_of size trace.now m.old }
 {
     replays::replay(
         size,

@@ -1,12 +1,12 @@
 // What a name refers to at position 0, and the name whose rows it leans on.
+#![tactic(auto)]
 ghost use Rattle.std.specs.Prelude.{◌≡◌};
 ghost use Rattle.references.specs.References.{anew, reference_of, leans_on};
-ghost use Rattle.base.specs.Lent.{lent};
 
 use spans::Distance;
 
 // What is written at position 0.
-#[derive(Drop)]
+#[derive(Clone, Copy)]
 pub enum Reference {
     Dup(Distance),
     Diff(Distance),
@@ -21,7 +21,7 @@ fn is_anew(n: u32) -> bool
 
 // What name n is after the name just before it.
 pub fn reference_of(n: u32, before: &[u8], name: &[u8]) -> Reference
-    ensures { result ≡ reference_of n (lent before) (lent name) }
+    ensures { result ≡ reference_of n before.now name.now }
 {
     if is_anew(n) {
         return Reference::Diff(Distance(0));
@@ -34,7 +34,7 @@ pub fn reference_of(n: u32, before: &[u8], name: &[u8]) -> Reference
 
 // The name whose rows name n leans on: the one just before, or none.
 pub fn leans_on(n: u32, before: &[u8]) -> &[u8]
-    ensures { result.now ≡ leans_on n (lent before) }
+    ensures { result.now ≡ leans_on n before.now }
 {
     if is_anew(n) {
         return &before[..0];

@@ -1,4 +1,5 @@
 // The tokens that lean on the earlier name's row at their position.
+#![tactic(auto)]
 ghost use Rattle.std.specs.Prelude.{◌≡◌, List, ℕ, ◌≤◌, ◌<◌, ◌+◌, ◌-◌, ◌^◌, length};
 ghost use Rattle.block.specs.Open.{Open};
 ghost use Rattle.tables.specs.Tables.{row_at, in_rows, row_room, rows_lent};
@@ -7,7 +8,6 @@ ghost use Rattle.sources.specs.Source.{earlier, source};
 ghost use Rattle.numbering.specs.Types.{Rules};
 ghost use Rattle.repeats.specs.Repeats.{token_of, match_of, delta_at, delta0_at, match_at};
 ghost use Rattle.repeats.specs.Sound.{Rows, reach};
-ghost use Rattle.base.specs.Lent.{lent};
 
 use block::stream;
 use spans::{Cursor, Position};
@@ -18,7 +18,7 @@ use values::Step;
 // The value that a row keeps. Its text is looked at for STRING and CHAR only.
 fn token_of(text: &[u8], r: Row) -> Token
     requires { RowInside (reach text.now) r }
-    ensures { result ≡ token_of (lent text) r }
+    ensures { result ≡ token_of text.now r }
 {
     let start = r.start;
     let kind = r.kind;
@@ -43,7 +43,7 @@ fn token_of(text: &[u8], r: Row) -> Token
 // The earlier name's row at a position: rows are counted from 0, positions from 1.
 fn row_here(rows: &[u32], first: u32, p: Position) -> Row
     requires { (1 ≤ p.0) × ((first + p.0 < 2 ^ 32) × (first + p.0 ≤ row_room (in_rows rows.now))) }
-    ensures { result ≡ row_at (rows_lent rows) (first + (p.0 - 1)) }
+    ensures { result ≡ row_at (rows_lent rows.now) (first + (p.0 - 1)) }
 {
     tables::row_at(rows, first + (p.0 - 1))
 }
@@ -60,7 +60,7 @@ pub fn delta_at(
     requires fact { Open bytes.now dir.now cursors.now }
     requires count_bound { first + count ≤ row_room (in_rows rows.now) }
     requires count_bound_2 { (first + count < 2 ^ 32) × ((1 ≤ p.0) × (p.0 ≤ 128)) }
-    ensures { (rules : Rules) (text : List ℕ) → result ≡ delta_at (source rules (lent bytes) (lent dir) (lent cursors)) (earlier text (rows_lent rows) first count) p.0 }
+    ensures { (rules : Rules) (text : List ℕ) → result ≡ delta_at (source rules bytes.now dir.now cursors.now) (earlier text (rows_lent rows.now) first count) p.0 }
 {
     let at = p.0;
     if count < at {
@@ -87,7 +87,7 @@ pub fn delta0_at(
     requires fact { Open bytes.now dir.now cursors.now }
     requires count_bound { first + count ≤ row_room (in_rows rows.now) }
     requires count_bound_2 { (first + count < 2 ^ 32) × ((1 ≤ p.0) × (p.0 ≤ 128)) }
-    ensures { (rules : Rules) (text : List ℕ) → result ≡ delta0_at (source rules (lent bytes) (lent dir) (lent cursors)) (earlier text (rows_lent rows) first count) p.0 }
+    ensures { (rules : Rules) (text : List ℕ) → result ≡ delta0_at (source rules bytes.now dir.now cursors.now) (earlier text (rows_lent rows.now) first count) p.0 }
 {
     let at = p.0;
     if count < at {
@@ -105,7 +105,7 @@ pub fn delta0_at(
 
 fn match_of(text: &[u8], r: Row, c: Cursor) -> Step
     requires { RowInside (reach text.now) r }
-    ensures { result ≡ match_of (lent text) r c }
+    ensures { result ≡ match_of text.now r c }
 {
     Step::Got(token_of(text, r), c)
 }
@@ -113,7 +113,7 @@ fn match_of(text: &[u8], r: Row, c: Cursor) -> Step
 pub fn match_at(text: &[u8], rows: &[u32], first: u32, count: u32, p: Position, c: Cursor) -> Step
     requires rows { Rows (reach text.now) (earlier text.now (in_rows rows.now) first count) }
     requires count_bound { (first + count < 2 ^ 32) × ((1 ≤ p.0) × (p.0 ≤ 128)) }
-    ensures { result ≡ match_at (earlier (lent text) (rows_lent rows) first count) p.0 c }
+    ensures { result ≡ match_at (earlier text.now (rows_lent rows.now) first count) p.0 c }
 {
     let at = p.0;
     if count < at {

@@ -1,6 +1,6 @@
 // A trace of symbols replayed: the table that a model should end with.
+#![tactic(auto)]
 ghost use Rattle.std.specs.Prelude.{◌≡◌, ◌≤◌, length};
-ghost use Rattle.base.specs.Lent.{lent, left};
 ghost use Rattle.model.specs.Model.{model, places};
 ghost use Rattle.model.specs.Sound.{Sound};
 ghost use Rattle.replays.specs.Lent.{model_lent, model_left};
@@ -9,14 +9,14 @@ ghost use Rattle.replays.specs.Replays.{replaying, turn_of, replay_from, replay_
 use block::Refusal;
 use model::Model;
 
-#[derive(Drop)]
+#[derive(Clone, Copy)]
 pub enum Replayed {
     Whole,
     Refused(Refusal),
 }
 
 // What a replay has come to: its answer, and the total.
-#[derive(Drop)]
+#[derive(Clone, Copy)]
 struct Run {
     answer: Replayed,
     total: u32,
@@ -25,7 +25,7 @@ struct Run {
 // One symbol of a trace: its step, if it stands in the table.
 fn turn(symbol: u8, symbols: &mut [u32], frequencies: &mut [u32], total: u32) -> Run
     requires { Sound (length symbols.old) (model symbols.old frequencies.old total) }
-    ensures { replaying result.answer (model (left symbols) (left frequencies) result.total) ≡ turn_of (model (lent symbols) (lent frequencies) total) symbol }
+    ensures { replaying result.answer (model symbols.new frequencies.new result.total) ≡ turn_of (model symbols.old frequencies.old total) symbol }
 {
     let at = model::place_of(symbols, symbol);
     if symbols.len() <= at {
@@ -43,7 +43,7 @@ fn turn(symbol: u8, symbols: &mut [u32], frequencies: &mut [u32], total: u32) ->
 // A turn for each symbol of a trace, until one is refused.
 fn follow(trace: &[u8], symbols: &mut [u32], frequencies: &mut [u32], start: u32) -> Run
     requires { Sound (length symbols.old) (model symbols.old frequencies.old start) }
-    ensures { replaying result.answer (model (left symbols) (left frequencies) result.total) ≡ replay_from (model (lent symbols) (lent frequencies) start) (lent trace) }
+    ensures { replaying result.answer (model symbols.new frequencies.new result.total) ≡ replay_from (model symbols.old frequencies.old start) trace.now }
 {
     let mut total = start;
     let mut i: usize = 0;
@@ -69,7 +69,7 @@ fn follow(trace: &[u8], symbols: &mut [u32], frequencies: &mut [u32], start: u32
 // A table of as many places as are lent, started and then taken through a trace.
 fn fresh(trace: &[u8], symbols: &mut [u32], frequencies: &mut [u32]) -> Run
     requires { (length symbols.old ≤ places) × (length frequencies.old ≡ length symbols.old) }
-    ensures { replaying result.answer (model (left symbols) (left frequencies) result.total) ≡ replay_fresh (length (lent symbols)) (lent trace) }
+    ensures { replaying result.answer (model symbols.new frequencies.new result.total) ≡ replay_fresh (length symbols.old) trace.now }
 {
     let size = symbols.len() as u32;
     model::start(symbols, frequencies);
@@ -79,7 +79,7 @@ fn fresh(trace: &[u8], symbols: &mut [u32], frequencies: &mut [u32]) -> Run
 // Only as many places as the table has are lent on.
 fn within(size: usize, trace: &[u8], symbols: &mut [u32], frequencies: &mut [u32]) -> Run
     requires { (size ≤ places) × ((length symbols.old ≡ places) × (length frequencies.old ≡ places)) }
-    ensures { replaying result.answer (model (left symbols) (left frequencies) result.total) ≡ in_place (model (lent symbols) (lent frequencies) 0) (replay_fresh size (lent trace)) }
+    ensures { replaying result.answer (model symbols.new frequencies.new result.total) ≡ in_place (model symbols.old frequencies.old 0) (replay_fresh size trace.now) }
 {
     fresh(trace, &mut symbols[..size], &mut frequencies[..size])
 }
@@ -92,7 +92,7 @@ pub fn replay(
     frequencies: &mut [u32; 256],
     total: &mut u32,
 ) -> Replayed
-    ensures { replaying result (model_left symbols frequencies total) ≡ replay_of size (lent trace) (model_lent symbols frequencies total) }
+    ensures { replaying result (model_left symbols.new frequencies.new total.new) ≡ replay_of size trace.now (model_lent symbols.old frequencies.old total.old) }
 {
     if size == 0 {
         return Replayed::Refused(Refusal::Plain(17));
@@ -114,7 +114,7 @@ fn turn_within(
     total: u32,
 ) -> Run
     requires { Sound size (table_in size (model symbols.old frequencies.old total)) × ((length symbols.old ≡ places) × (length frequencies.old ≡ places)) }
-    ensures { replaying result.answer (model (left symbols) (left frequencies) result.total) ≡ step_of size symbol (model (lent symbols) (lent frequencies) total) }
+    ensures { replaying result.answer (model symbols.new frequencies.new result.total) ≡ step_of size symbol (model symbols.old frequencies.old total) }
 {
     turn(
         symbol,
@@ -133,7 +133,7 @@ pub fn step(
     total: &mut u32,
 ) -> Replayed
     requires { Sound size (table_in size (model symbols.old frequencies.old total.old)) }
-    ensures { replaying result (model_left symbols frequencies total) ≡ step_of size symbol (model_lent symbols frequencies total) }
+    ensures { replaying result (model_left symbols.new frequencies.new total.new) ≡ step_of size symbol (model_lent symbols.old frequencies.old total.old) }
 {
     let run = turn_within(size as usize, symbol, symbols, frequencies, *total);
     *total = run.total;

@@ -1,8 +1,9 @@
 // How far a number is above the earlier row's.
+#![tactic(auto)]
 ghost use Rattle.std.specs.Prelude.{◌≡◌};
 ghost use Rattle.rises.specs.Rises.{rise_of};
 
-#[derive(Drop)]
+#[derive(Clone, Copy)]
 pub enum Rise {
     Same,
     Up(u8),

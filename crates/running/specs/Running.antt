@@ -1,6 +1,5 @@
 -- A run of MATCHes in one go: how far it may go, what it comes to, and what it puts down.
 use Rattle.std.specs.Prelude.{ℕ, ◌+◌, ◌-◌, ◌≤◌, ◌≡◌, Bool, List, leb, ltb, length}
-use Rattle.std.specs.Borrow.{Bor}
 use Rattle.base.specs.Choice.{pick, both}
 use Rattle.base.specs.Lent.{Buffer}
 use Rattle.spans.specs.declared.Position.{Position}
@@ -35,12 +34,9 @@ unfoldable pub run_of : Source → Earlier → ℕ → ℕ → ℕ → Ran
 run_of s e end p len = run_to e p (run_end s p (end - p)) len
 
 -- the same of the block and of the earlier name's rows that a call is lent
-abbrev pub run_now : Setting → Bor (List ℕ) → Bor (List ℕ) → Bor (List ℕ) → Bor (List ℕ) → Bor (List ℕ) → ℕ → ℕ → Position → Position → ℕ → Ran
-run_now set bytes dir cursors text rows first count end p len =
-    run_of (source (rules_of set) bytes.now dir.now cursors.now) (earlier text.now (in_rows rows.now) first count) end.0 p.0 len
-
 abbrev pub run_lent : Setting → Buffer → Buffer → Buffer → Buffer → Buffer → ℕ → ℕ → Position → Position → ℕ → Ran
-run_lent set bytes dir cursors text rows = run_now set bytes.entry dir.entry cursors.entry text.entry rows.entry
+run_lent set bytes dir cursors text rows first count end p len =
+    run_of (source (rules_of set) bytes dir cursors) (earlier text (in_rows rows) first count) end.0 p.0 len
 
 -- room for the name as far as the run takes it
 abbrev pub RunRoom : Ran → ℕ → ℕ → List ℕ → Table → Type 0

@@ -1,18 +1,18 @@
 // A run of MATCHes against rows that are known to be spelt: found by its types, and repeated in one go.
+#![tactic(auto)]
 ghost use Rattle.std.specs.Prelude.{◌≡◌, true, ◌≤◌, ◌<◌, ◌+◌, ◌^◌};
 ghost use Rattle.block.specs.Open.{Open};
 ghost use Rattle.sources.specs.Source.{earlier};
 ghost use Rattle.repeats.specs.Sound.{Rows};
 ghost use Rattle.names.specs.Keeps.{memory_lent, memory_left};
-ghost use Rattle.running.specs.Running.{Reaches, run_now, run_lent, RunRoom, run_put};
-ghost use Rattle.base.specs.Lent.{lent};
+ghost use Rattle.running.specs.Running.{Reaches, run_lent, RunRoom, run_put};
 ghost use Rattle.tables.specs.Tables.{in_rows, rows_lent};
 
 use block::{Block, Setting};
 use spans::Position;
 
 // Behind a run of MATCHes: the next position and the name's length so far, or that the name is too long.
-#[derive(Drop)]
+#[derive(Clone, Copy)]
 pub enum Ran {
     On { p: Position, len: u32 },
     Long,
@@ -40,9 +40,9 @@ pub fn run(
     requires reaches { Reaches end.0 (earlier text.old (in_rows rows.old) first count) }
     requires le_p { (1 ≤ p.0) × ((p.0 ≤ 128) × (len ≤ 254)) }
     requires used_bound { (used < 2 ^ 31) × ((first + count ≤ row) × (row < 2 ^ 31)) }
-    requires run_room { keeping ≡ true → RunRoom (run_now set bytes dir cursors text rows first count end p len) used row text.old (in_rows rows.old) }
-    ensures value { result ≡ run_lent set bytes dir cursors text rows first count end p len }
-    ensures cursors_value { memory_left text rows cursors ≡ run_put keeping (earlier (lent text) (rows_lent rows) first count) used row p.0 len result (memory_lent text rows cursors) }
+    requires run_room { keeping ≡ true → RunRoom (run_lent set bytes.now dir.now cursors.old text.old rows.old first count end p len) used row text.old (in_rows rows.old) }
+    ensures value { result ≡ run_lent set bytes.now dir.now cursors.old text.old rows.old first count end p len }
+    ensures cursors_value { memory_left text.new rows.new cursors.new ≡ run_put keeping (earlier text.old (rows_lent rows.old) first count) used row p.0 len result (memory_lent text.old rows.old cursors.old) }
 {
     let q = runs::run_end(set, bytes, dir, cursors, p, end);
     if q.0 <= p.0 {

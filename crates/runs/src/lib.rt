@@ -1,4 +1,5 @@
 // A run of MATCHes found: how far it may go, where it ends by its types, and how many bytes its rows have.
+#![tactic(auto)]
 ghost use Rattle.std.specs.Prelude.{◌≡◌, ◌≤◌, ◌<◌, ◌+◌, ◌-◌, ◌^◌, length};
 ghost use Rattle.base.specs.Choice.{pick};
 ghost use Rattle.block.specs.Open.{Open};
@@ -49,7 +50,7 @@ pub fn run_end(
 ) -> Position
     requires fact { Open bytes.now dir.now cursors.now }
     requires le_p { (1 ≤ p.0) × (end.0 ≤ 128) }
-    ensures { result.0 ≡ run_end (block_lent set bytes dir cursors) p.0 (end.0 - p.0) }
+    ensures { result.0 ≡ run_end (block_lent set bytes.now dir.now cursors.now) p.0 (end.0 - p.0) }
 {
     let stop = end.0;
     let mut q = p.0;
@@ -68,7 +69,7 @@ pub fn run_length(rows: &[u32], from: usize, to: usize) -> u32
     requires from_lt_to { (from < to) × (to ≤ row_room (in_rows rows.now)) }
     requires from_bound { (row_at (in_rows rows.now) from).start ≤ (row_at (in_rows rows.now) (to - 1)).start + (row_at (in_rows rows.now) (to - 1)).length }
     requires to_bound { (row_at (in_rows rows.now) (to - 1)).start + (row_at (in_rows rows.now) (to - 1)).length < 2 ^ 32 }
-    ensures { result ≡ text_length (rows_lent rows) from to }
+    ensures { result ≡ text_length (rows_lent rows.now) from to }
 {
     let lead = tables::row_in(rows, from);
     let last = tables::row_in(rows, to - 1);

@@ -7,7 +7,7 @@ use Rattle.spans.specs.Spans.{byte_at, four_at, text_at}
 use Rattle.block.specs.Block.{span_of, end_of, cursor_of}
 use Rattle.block.specs.declared.Setting.{Setting}
 use Rattle.numbering.specs.Types.{Rules, rules_of}
-use Rattle.base.specs.Lent.{Buffer, lent}
+use Rattle.base.specs.Lent.{Buffer}
 use Rattle.tables.specs.Tables.{Table}
 
 pub record Source : Type 0 where
@@ -41,4 +41,4 @@ earlier t r f n = record { text = t; rows = r; first = f; count = n }
 
 -- the block that a call is lent
 abbrev pub block_lent : Setting → Buffer → Buffer → Buffer → Source
-block_lent set bytes dir cursors = source (rules_of set) (lent bytes) (lent dir) (lent cursors)
+block_lent set bytes dir cursors = source (rules_of set) bytes dir cursors

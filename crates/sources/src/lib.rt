@@ -1,16 +1,16 @@
 // What a position's spans give next.
+#![tactic(auto)]
 ghost use Rattle.std.specs.Prelude.{◌≡◌, ◌≤◌};
 ghost use Rattle.block.specs.Open.{Open};
 ghost use Rattle.sources.specs.Source.{byte_in, four_in, text_in, source};
 ghost use Rattle.numbering.specs.Types.{Rules};
-ghost use Rattle.base.specs.Lent.{lent};
 
 use spans::{NextByte, NextFour, NextText, Position};
 
 pub fn byte_in(bytes: &[u8], dir: &[u32], cursors: &[u32], p: Position, stream: u32) -> NextByte
     requires fact { Open bytes.now dir.now cursors.now }
     requires p_bound { (p.0 ≤ 128) × (stream ≤ 9) }
-    ensures { (rules : Rules) → result ≡ byte_in (source rules (lent bytes) (lent dir) (lent cursors)) p.0 stream }
+    ensures { (rules : Rules) → result ≡ byte_in (source rules bytes.now dir.now cursors.now) p.0 stream }
 {
     let span = block::span_of(p, stream);
     let c = block::cursor_of(cursors, span);
@@ -21,7 +21,7 @@ pub fn byte_in(bytes: &[u8], dir: &[u32], cursors: &[u32], p: Position, stream: 
 pub fn four_in(bytes: &[u8], dir: &[u32], cursors: &[u32], p: Position, stream: u32) -> NextFour
     requires fact { Open bytes.now dir.now cursors.now }
     requires p_bound { (p.0 ≤ 128) × (stream ≤ 9) }
-    ensures { (rules : Rules) → result ≡ four_in (source rules (lent bytes) (lent dir) (lent cursors)) p.0 stream }
+    ensures { (rules : Rules) → result ≡ four_in (source rules bytes.now dir.now cursors.now) p.0 stream }
 {
     let span = block::span_of(p, stream);
     let c = block::cursor_of(cursors, span);
@@ -32,7 +32,7 @@ pub fn four_in(bytes: &[u8], dir: &[u32], cursors: &[u32], p: Position, stream: 
 pub fn text_in(bytes: &[u8], dir: &[u32], cursors: &[u32], p: Position, stream: u32) -> NextText
     requires fact { Open bytes.now dir.now cursors.now }
     requires p_bound { (p.0 ≤ 128) × (stream ≤ 9) }
-    ensures { (rules : Rules) → result ≡ text_in (source rules (lent bytes) (lent dir) (lent cursors)) p.0 stream }
+    ensures { (rules : Rules) → result ≡ text_in (source rules bytes.now dir.now cursors.now) p.0 stream }
 {
     let span = block::span_of(p, stream);
     let c = block::cursor_of(cursors, span);

@@ -1,34 +1,34 @@
 // What stands at a cursor: the next byte, the next four as a number, or the text up to a zero byte.
 // Distances, positions and cursors are types of their own, so that none is taken for another.
+#![tactic(auto)]
 ghost use Rattle.std.specs.Prelude.{◌≡◌, ◌≤◌, ◌+◌, ◌*◌, length};
 ghost use Rattle.spans.specs.Spans.{byte_at, four_at, text_at};
-ghost use Rattle.base.specs.Lent.{lent};
 
 // Counts names back.
-#[derive(Drop)]
+#[derive(Clone, Copy)]
 pub struct Distance(pub u32);
 
 // Counts tokens.
-#[derive(Drop)]
+#[derive(Clone, Copy)]
 pub struct Position(pub u32);
 
 // Counts bytes.
-#[derive(Drop)]
+#[derive(Clone, Copy)]
 pub struct Cursor(pub u32);
 
-#[derive(Drop)]
+#[derive(Clone, Copy)]
 pub enum NextByte {
     Value(u8, Cursor),
     Short,
 }
 
-#[derive(Drop)]
+#[derive(Clone, Copy)]
 pub enum NextFour {
     Value(u32, Cursor),
     Short,
 }
 
-#[derive(Drop)]
+#[derive(Clone, Copy)]
 pub enum NextText {
     Bytes {
         start: Cursor,
@@ -48,7 +48,7 @@ pub fn join(b0: u8, b1: u8, b2: u8, b3: u8) -> u32
 impl Cursor {
     pub fn next_byte(self, bytes: &[u8], end: Cursor) -> NextByte
         requires { end.0 ≤ length bytes.now }
-        ensures { result ≡ byte_at (lent bytes) self.0 end.0 }
+        ensures { result ≡ byte_at bytes.now self.0 end.0 }
     {
         let at = self.0;
         let stop = end.0;
@@ -60,7 +60,7 @@ impl Cursor {
 
     pub fn next_four(self, bytes: &[u8], end: Cursor) -> NextFour
         requires { end.0 ≤ length bytes.now }
-        ensures { result ≡ four_at (lent bytes) self.0 end.0 }
+        ensures { result ≡ four_at bytes.now self.0 end.0 }
     {
         let at = self.0;
         let stop = end.0;
@@ -81,7 +81,7 @@ impl Cursor {
     // The zero byte is dropped; one at the end or behind it does not count.
     pub fn next_text(self, bytes: &[u8], end: Cursor) -> NextText
         requires { end.0 ≤ length bytes.now }
-        ensures { result ≡ text_at (lent bytes) self.0 end.0 }
+        ensures { result ≡ text_at bytes.now self.0 end.0 }
     {
         let at = self.0;
         let stop = end.0 as usize;

@@ -1,9 +1,9 @@
 // Where a name is split into tokens: runs, and the cut behind each token.
 // Places count bytes of the name, from its start.
+#![tactic(auto)]
 ghost use Rattle.std.specs.Prelude.{◌≡◌, ◌≤◌, ◌<◌, ◌-◌, length, get_or};
 ghost use Rattle.classes.specs.Classes.{digit_class, class_of, class_table};
 ghost use Rattle.splitting.specs.Split.{run_end, number_run, run_limit, cut_of};
-ghost use Rattle.base.specs.Lent.{lent};
 
 use block::Block;
 use classes::{DIGIT, LETTER};
@@ -13,7 +13,7 @@ use spans::Position;
 pub const LAST: u32 = Block::TOKENS - 1;
 
 // Where a token ends, and the number that it says if it is one.
-#[derive(Drop)]
+#[derive(Clone, Copy)]
 pub struct Cut {
     pub end: usize,
     pub number: u32,
@@ -23,7 +23,7 @@ pub struct Cut {
 fn run_end(table: &[u8; 256], name: &[u8], class: u8, at: usize) -> usize
     requires table_value { table.now ≡ class_table }
     requires at_in_bounds { at ≤ length name.now }
-    ensures { result ≡ run_end (lent name) class at (length (lent name) - at) }
+    ensures { result ≡ run_end name.now class at (length name.now - at) }
 {
     let mut i = at;
     while i < name.len() {
@@ -39,7 +39,7 @@ fn run_end(table: &[u8; 256], name: &[u8], class: u8, at: usize) -> usize
 fn number_run(table: &[u8; 256], name: &[u8], at: usize, to: usize) -> Cut
     requires table_value { table.now ≡ class_table }
     requires at_le_to { (at ≤ to) × ((to ≤ length name.now) × (to - at ≤ 9)) }
-    ensures { result ≡ number_run (lent name) at (to - at) }
+    ensures { result ≡ number_run name.now at (to - at) }
 {
     let mut n: u32 = 0;
     let mut i = at;
@@ -57,7 +57,7 @@ fn number_run(table: &[u8; 256], name: &[u8], at: usize, to: usize) -> Cut
 // A run of digits is cut after 9.
 fn digits_limit(name: &[u8], at: usize) -> usize
     requires { (at < length name.now) × (class_of (get_or name.now at 0) ≡ digit_class) }
-    ensures { result ≡ run_limit (lent name) at }
+    ensures { result ≡ run_limit name.now at }
 {
     let digits = Block::DIGITS as usize;
     if digits < name.len() - at {
@@ -69,7 +69,7 @@ fn digits_limit(name: &[u8], at: usize) -> usize
 // Where the token that begins at a place ends.
 pub fn cut_at(table: &[u8; 256], name: &[u8], p: Position, at: usize) -> Cut
     requires { table.now ≡ class_table }
-    ensures { result ≡ cut_of (lent name) p.0 at }
+    ensures { result ≡ cut_of name.now p.0 at }
 {
     if name.len() <= at {
         return Cut { end: at, number: 0 };

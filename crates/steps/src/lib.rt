@@ -1,5 +1,6 @@
 // One token: read at its position's spans and resolved against the earlier name's row there.
 // A step reads and judges; it writes nothing.
+#![tactic(auto)]
 ghost use Rattle.std.specs.Prelude.{◌≡◌, ℕ, ◌≤◌, ◌<◌, ◌+◌, ◌^◌};
 ghost use Rattle.block.specs.Open.{Open};
 ghost use Rattle.base.specs.Choice.{pick};
@@ -10,7 +11,6 @@ ghost use Rattle.sources.specs.Source.{Source, Earlier, source, earlier, block_l
 ghost use Rattle.numbering.specs.Types.{Rules};
 ghost use Rattle.steps.specs.Steps.{value_step, typed_step};
 ghost use Rattle.repeats.specs.Sound.{Rows, reach};
-ghost use Rattle.base.specs.Lent.{lent};
 ghost use Rattle.tables.specs.Tables.{in_rows, rows_lent};
 
 use block::{Setting, stream};
@@ -34,7 +34,7 @@ pub fn value_step(
     requires fact { Open bytes.now dir.now cursors.now }
     requires rows { Rows (reach text.now) (earlier text.now (in_rows rows.now) first count) }
     requires count_bound { (first + count < 2 ^ 32) × ((1 ≤ p.0) × (p.0 ≤ 128)) }
-    ensures { (rules : Rules) → result ≡ value_step (source rules (lent bytes) (lent dir) (lent cursors)) (earlier (lent text) (rows_lent rows) first count) p.0 c t }
+    ensures { (rules : Rules) → result ≡ value_step (source rules bytes.now dir.now cursors.now) (earlier text.now (rows_lent rows.now) first count) p.0 c t }
 {
     match t {
         TokenType::String => values::string_step(sources::text_in(
@@ -101,7 +101,7 @@ pub fn typed_step(
     requires fact { Open bytes.now dir.now cursors.now }
     requires rows { Rows (reach text.now) (earlier text.now (in_rows rows.now) first count) }
     requires count_bound { (first + count < 2 ^ 32) × ((1 ≤ p.0) × (p.0 ≤ 128)) }
-    ensures { result ≡ typed_step (block_lent set bytes dir cursors) (earlier (lent text) (rows_lent rows) first count) p.0 found }
+    ensures { result ≡ typed_step (block_lent set bytes.now dir.now cursors.now) (earlier text.now (rows_lent rows.now) first count) p.0 found }
 {
     match found {
         NextByte::Value(b, c) => {

@@ -3,7 +3,7 @@ use Rattle.std.specs.Prelude.{ℕ, ◌+◌, ◌*◌, ◌/◌, List, [], ◌∷�
 use Rattle.block.specs.declared.State.{State}
 use Rattle.tables.specs.declared.Entry.{Entry}
 use Rattle.tables.specs.declared.Row.{Row}
-use Rattle.base.specs.Lent.{Buffer, lent, left}
+use Rattle.base.specs.Lent.{Buffer}
 use Rattle.base.specs.Memory.{written}
 
 -- the table of rows, as memory lays it out: rows one behind the other, each its numbers. All above this crate looks rows up by their number
@@ -78,11 +78,11 @@ unused_part (in_rows l) = drop (row_size * room row_size l) l
 
 -- the table of rows that a call is lent, and the one that it leaves
 abbrev pub rows_lent : Buffer → Table
-rows_lent rows = in_rows (lent rows)
+rows_lent rows = in_rows rows
 
 abbrev pub rows_left : Buffer → Table
-rows_left rows = in_rows (left rows)
+rows_left rows = in_rows rows
 
 -- the tables that a call is lent
 abbrev pub tables_lent : State → Buffer → Buffer → Buffer → Kept
-tables_lent s text names rows = keeping s (lent text) (lent names) (rows_lent rows)
+tables_lent s text names rows = keeping s text names (rows_lent rows)

@@ -1,4 +1,5 @@
 // One token of a name taken where a turn stands: judged over what is lent and not written, or kept.
+#![tactic(auto)]
 ghost use Rattle.std.specs.Prelude.{◌≡◌, true};
 ghost use Rattle.numbering.specs.Types.{numbers_of};
 ghost use Rattle.tokens.specs.Inside.{Inside};
@@ -6,7 +7,6 @@ ghost use Rattle.values.specs.declared.Step.TheVariants.{Got};
 ghost use Rattle.names.specs.Names.{type_in};
 ghost use Rattle.names.specs.Keeps.{memory_lent, memory_left};
 ghost use Rattle.taking.specs.Taking.{Placed, turn_of, KeepableAt, take_put};
-ghost use Rattle.base.specs.Lent.{lent};
 ghost use Rattle.tables.specs.Tables.{in_rows};
 
 use block::Setting;
@@ -15,7 +15,7 @@ use spans::{Cursor, NextByte, Position};
 use tokens::Token;
 
 // What a turn of the walk makes of a name: so many bytes longer, at its END, or refused.
-#[derive(Drop)]
+#[derive(Clone, Copy)]
 pub enum Turn {
     On(u32),
     End,
@@ -23,7 +23,7 @@ pub enum Turn {
 }
 
 // Where a turn stands: its position, the name's length so far, and where the name's text and rows begin.
-#[derive(Drop)]
+#[derive(Clone, Copy)]
 pub struct Place {
     pub p: Position,
     pub len: u32,
@@ -47,8 +47,8 @@ pub fn take(
     requires inside { Inside bytes.now text.old t }
     requires placed { Placed at }
     requires keepable_at { keeping ≡ true → KeepableAt at t (type_in (numbers_of set.kind) found) cursors.old text.old (in_rows rows.old) }
-    ensures value { result ≡ turn_of keeping (lent bytes) (lent text) at.len (Got t c) }
-    ensures cursors_value { memory_left text rows cursors ≡ take_put keeping (lent bytes) t (type_in (numbers_of set.kind) found) c at (memory_lent text rows cursors) }
+    ensures value { result ≡ turn_of keeping bytes.now text.old at.len (Got t c) }
+    ensures cursors_value { memory_left text.new rows.new cursors.new ≡ take_put keeping bytes.now t (type_in (numbers_of set.kind) found) c at (memory_lent text.old rows.old cursors.old) }
 {
     if keeping {
         let ty = keeping::type_in(set, found);

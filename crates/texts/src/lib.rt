@@ -1,10 +1,10 @@
 // A token as it is listed: its type, and its text or number.
+#![tactic(auto)]
 ghost use Rattle.std.specs.Prelude.{◌≡◌, ◌≤◌, length};
 ghost use Rattle.pieces.specs.Pieces.{Within};
 ghost use Rattle.choices.specs.Choices.{ChoiceWithin};
 ghost use Rattle.pages.specs.Page.{page, said, HasRoom};
 ghost use Rattle.texts.specs.Texts.{string_text, char_text, padded_text, piece_text, choice_text};
-ghost use Rattle.base.specs.Lent.{lent, left};
 
 use choices::Choice;
 use pieces::Piece;
@@ -13,7 +13,7 @@ use tokens::Padded;
 fn put_string(out: &mut [u8], at: usize, name: &[u8], from: usize, to: usize) -> usize
     requires from_le_to { (from ≤ to) × (to ≤ length name.now) }
     requires has_room { HasRoom (string_text name.now from to) (page out.old at) }
-    ensures { page (left out) result ≡ said (string_text (lent name) from to) (page (lent out) at) }
+    ensures { page out.new result ≡ said (string_text name.now from to) (page out.old at) }
 {
     let next = pages::put(out, at, b" STRING ");
     pages::put_part(out, next, name, from, to)
@@ -21,7 +21,7 @@ fn put_string(out: &mut [u8], at: usize, name: &[u8], from: usize, to: usize) ->
 
 fn put_char(out: &mut [u8], at: usize, b: u8) -> usize
     requires { HasRoom (char_text b) (page out.old at) }
-    ensures { page (left out) result ≡ said (char_text b) (page (lent out) at) }
+    ensures { page out.new result ≡ said (char_text b) (page out.old at) }
 {
     let next = pages::put(out, at, b" CHAR ");
     pages::put(out, next, &[b])
@@ -30,7 +30,7 @@ fn put_char(out: &mut [u8], at: usize, b: u8) -> usize
 // The number without its zeros, and the width.
 fn put_padded(out: &mut [u8], at: usize, x: Padded) -> usize
     requires { HasRoom (padded_text x) (page out.old at) }
-    ensures { page (left out) result ≡ said (padded_text x) (page (lent out) at) }
+    ensures { page out.new result ≡ said (padded_text x) (page out.old at) }
 {
     let next = pages::put_labelled(out, at, b" DIGITS0 ", x.number);
     pages::put_labelled(out, next, b"/", x.width)
@@ -39,7 +39,7 @@ fn put_padded(out: &mut [u8], at: usize, x: Padded) -> usize
 fn put_piece(out: &mut [u8], at: usize, name: &[u8], t: Piece) -> usize
     requires within { Within name.now t }
     requires has_room { HasRoom (piece_text name.now t) (page out.old at) }
-    ensures { page (left out) result ≡ said (piece_text (lent name) t) (page (lent out) at) }
+    ensures { page out.new result ≡ said (piece_text name.now t) (page out.old at) }
 {
     match t {
         Piece::String { start, end } => put_string(out, at, name, start, end),
@@ -52,7 +52,7 @@ fn put_piece(out: &mut [u8], at: usize, name: &[u8], t: Piece) -> usize
 pub fn put_choice(out: &mut [u8], at: usize, name: &[u8], c: Choice) -> usize
     requires choice_within { ChoiceWithin name.now c }
     requires has_room { HasRoom (choice_text name.now c) (page out.old at) }
-    ensures { page (left out) result ≡ said (choice_text (lent name) c) (page (lent out) at) }
+    ensures { page out.new result ≡ said (choice_text name.now c) (page out.old at) }
 {
     match c {
         Choice::Itself(t) => put_piece(out, at, name, t),

@@ -1,11 +1,11 @@
 // What a name's tokens put into the spans, each its type and its value, for whatever the pass does with it.
+#![tactic(auto)]
 ghost use Rattle.std.specs.Prelude.{◌≡◌, ◌≤◌, ◌<◌};
 ghost use Rattle.classes.specs.Classes.{class_table};
 ghost use Rattle.choices.specs.Choices.{ChoiceWithin, choices_of};
 ghost use Rattle.numbering.specs.Types.{rules_of};
 ghost use Rattle.laying.specs.Passes.{world, run_of, Roomy};
 ghost use Rattle.tokenputs.specs.TokenPuts.{piece_type, choice_type, choice_puts, token_puts};
-ghost use Rattle.base.specs.Lent.{lent, left};
 
 use block::{Setting, stream};
 use choices::Choice;
@@ -50,7 +50,7 @@ fn put_choice(
 ) -> u32
     requires p_bound { (p.0 ≤ 128) × ChoiceWithin name.now c }
     requires roomy { Roomy pass (choice_puts (rules_of set) name.now p.0 c) (world total directory.old bytes.old) }
-    ensures { world result (left directory) (left bytes) ≡ run_of pass (choice_puts (rules_of set) (lent name) p.0 c) (world total (lent directory) (lent bytes)) }
+    ensures { world result directory.new bytes.new ≡ run_of pass (choice_puts (rules_of set) name.now p.0 c) (world total directory.old bytes.old) }
 {
     let kind = set.kind;
     let b = numbering::type_number(kind, choice_type(c));
@@ -72,7 +72,7 @@ pub fn put_tokens(
 ) -> u32
     requires table_value { table.now ≡ class_table }
     requires roomy { Roomy pass (token_puts (rules_of set) name.now 1 (choices_of before.now name.now)) (world total directory.old bytes.old) }
-    ensures { world result (left directory) (left bytes) ≡ run_of pass (token_puts (rules_of set) (lent name) 1 (choices_of (lent before) (lent name))) (world total (lent directory) (lent bytes)) }
+    ensures { world result directory.new bytes.new ≡ run_of pass (token_puts (rules_of set) name.now 1 (choices_of before.now name.now)) (world total directory.old bytes.old) }
 {
     let mut sum = total;
     let mut p: u32 = 1;

@@ -1,4 +1,5 @@
 // The resolved token: one of four things, two of them carrying a number; what it prints and the row that it keeps.
+#![tactic(auto)]
 ghost use Rattle.std.specs.Prelude.{◌≡◌, true, ◌≤◌, ◌<◌, ◌+◌, ◌-◌, [], ◌∷◌, length};
 ghost use Rattle.base.specs.Choice.{pick};
 ghost use Rattle.base.specs.Memory.{written, part};
@@ -6,26 +7,25 @@ ghost use Rattle.classes.specs.Classes.{all_allowed};
 ghost use Rattle.tables.specs.Tables.{in_rows, row_room, put_rows, rows_lent, rows_left};
 ghost use Rattle.tokens.specs.Tokens.{bytes_of, kind_of, number_of, width_of, length_of, row_of};
 ghost use Rattle.tokens.specs.Inside.{Inside, KeptBelow};
-ghost use Rattle.base.specs.Lent.{lent, left};
 
 use tables::Row;
 
 // A number printed with zeros in front up to its width.
-#[derive(Drop)]
+#[derive(Clone, Copy)]
 pub struct Padded {
     pub number: u32,
     pub width: u32,
 }
 
 // Where the bytes of a STRING lie: in the block's bytes, or in the kept text where MATCH repeats an earlier one.
-#[derive(Drop)]
+#[derive(Clone, Copy)]
 pub struct Text {
     pub kept: bool,
     pub start: u32,
     pub end: u32,
 }
 
-#[derive(Drop)]
+#[derive(Clone, Copy)]
 pub enum Token {
     String(Text),
     Char(u8),
@@ -88,7 +88,7 @@ pub fn length(t: Token) -> u32
 
 fn text_allowed(t: Text, bytes: &[u8], text: &[u8]) -> bool
     requires { (t.start ≤ t.end) × (t.end ≤ length (pick t.kept text.now bytes.now)) }
-    ensures { result ≡ all_allowed (part (pick t.kept (lent text) (lent bytes)) t.start t.end) }
+    ensures { result ≡ all_allowed (part (pick t.kept text.now bytes.now) t.start t.end) }
 {
     let from = t.start as usize;
     let to = t.end as usize;
@@ -102,7 +102,7 @@ fn text_allowed(t: Text, bytes: &[u8], text: &[u8]) -> bool
 // Every byte printed is one that SAM allows; a number has digits only.
 pub fn allowed(t: Token, bytes: &[u8], text: &[u8]) -> bool
     requires { Inside bytes.now text.now t }
-    ensures { result ≡ all_allowed (bytes_of (lent bytes) (lent text) t) }
+    ensures { result ≡ all_allowed (bytes_of bytes.now text.now t) }
 {
     match t {
         Token::String(s) => text_allowed(s, bytes, text),
@@ -116,7 +116,7 @@ fn put_text(t: Text, bytes: &[u8], text: &mut [u8], at: usize)
     requires start_le_end { (t.start ≤ t.end) × (t.end ≤ length (pick t.kept text.old bytes.now)) }
     requires end_le_at { t.kept ≡ true → t.end ≤ at }
     requires start_in_bounds { at + (t.end - t.start) ≤ length text.old }
-    ensures { left text ≡ written (lent text) at (part (pick t.kept (lent text) (lent bytes)) t.start t.end) }
+    ensures { text.new ≡ written text.old at (part (pick t.kept text.old bytes.now) t.start t.end) }
 {
     let from = t.start as usize;
     let to = t.end as usize;
@@ -133,7 +133,7 @@ pub fn put(t: Token, bytes: &[u8], text: &mut [u8], at: usize) -> u32
     requires kept_below { KeptBelow at t }
     requires t_in_bounds { at + length_of t ≤ length text.old }
     ensures value { result ≡ length_of t }
-    ensures text_value { left text ≡ written (lent text) at (bytes_of (lent bytes) (lent text) t) }
+    ensures text_value { text.new ≡ written text.old at (bytes_of bytes.now text.old t) }
 {
     match t {
         Token::String(s) => {
@@ -156,7 +156,7 @@ pub fn put(t: Token, bytes: &[u8], text: &mut [u8], at: usize) -> u32
 pub fn put_row(t: Token, len: u32, rows: &mut [u32], row: usize, at: u32)
     requires len_value { len ≡ length_of t }
     requires row_bound { row < row_room (in_rows rows.old) }
-    ensures { rows_left rows ≡ put_rows (rows_lent rows) row (row_of t at ∷ []) }
+    ensures { rows_left rows.new ≡ put_rows (rows_lent rows.old) row (row_of t at ∷ []) }
 {
     let r = Row {
         kind: kind(t),

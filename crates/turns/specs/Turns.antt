@@ -1,7 +1,6 @@
 -- One turn of the walk over a name's positions, which is taken twice: the name is judged, and then kept.
 use Rattle.std.specs.Prelude.{ℕ, ◌+◌, ◌-◌, ◌≤◌, ◌<◌, Bool, List, length}
-use Rattle.std.specs.Borrow.{Bor}
-use Rattle.base.specs.Lent.{Buffer, lent}
+use Rattle.base.specs.Lent.{Buffer}
 use Rattle.block.specs.declared.Setting.{Setting}
 use Rattle.tables.specs.Tables.{Table, in_rows, row_room}
 use Rattle.numbering.specs.declared.TokenType.{TokenType}
@@ -17,12 +16,9 @@ use Rattle.taking.specs.declared.Place.{Place}
 use Rattle.taking.specs.Taking.{take_put}
 
 -- what stands at a place of the block, over the earlier name's rows
-abbrev pub step_now : Setting → Bor (List ℕ) → Bor (List ℕ) → Bor (List ℕ) → Bor (List ℕ) → Bor (List ℕ) → ℕ → ℕ → Place → Step
-step_now set bytes dir cursors text rows first count at =
-    step_at (source (rules_of set) bytes.now dir.now cursors.now) (earlier text.now (in_rows rows.now) first count) at.p.0
-
 abbrev pub step_lent : Setting → Buffer → Buffer → Buffer → Buffer → Buffer → ℕ → ℕ → Place → Step
-step_lent set bytes dir cursors text rows = step_now set bytes.entry dir.entry cursors.entry text.entry rows.entry
+step_lent set bytes dir cursors text rows first count at =
+    step_at (source (rules_of set) bytes dir cursors) (earlier text (in_rows rows) first count) at.p.0
 
 -- what a turn puts down
 unfoldable pub turn_put : Bool → List ℕ → Step → TokenType → Place → Memory → Memory
@@ -32,7 +28,7 @@ turn_put keeping bytes (step.Refused r) ty at m = m
 
 abbrev pub turn_put_lent : Setting → Bool → Buffer → Buffer → Buffer → Buffer → Buffer → ℕ → ℕ → Place → Memory
 turn_put_lent set keeping bytes dir cursors text rows first count at =
-    turn_put keeping (lent bytes) (step_lent set bytes dir cursors text rows first count at) (type_at (block_lent set bytes dir cursors) at.p.0) at (memory_lent text rows cursors)
+    turn_put keeping bytes (step_lent set bytes dir cursors text rows first count at) (type_at (block_lent set bytes dir cursors) at.p.0) at (memory_lent text rows cursors)
 
 -- room for a token and its row
 abbrev pub RoomAt : Step → Place → List ℕ → Table → Type 0

@@ -1,10 +1,10 @@
 // What the value of a token puts into the spans, for whatever the pass does with it.
+#![tactic(auto)]
 ghost use Rattle.std.specs.Prelude.{◌≡◌, ◌≤◌};
 ghost use Rattle.pieces.specs.Pieces.{Within};
 ghost use Rattle.choices.specs.Choices.{ChoiceWithin};
 ghost use Rattle.laying.specs.Passes.{world, run_of, Roomy};
 ghost use Rattle.valueputs.specs.ValuePuts.{piece_puts, value_puts};
-ghost use Rattle.base.specs.Lent.{lent, left};
 
 use block::stream;
 use choices::Choice;
@@ -23,7 +23,7 @@ fn put_piece(
 ) -> u32
     requires p_bound { (p.0 ≤ 128) × Within name.now t }
     requires roomy { Roomy pass (piece_puts name.now p.0 t) (world total directory.old bytes.old) }
-    ensures { world result (left directory) (left bytes) ≡ run_of pass (piece_puts (lent name) p.0 t) (world total (lent directory) (lent bytes)) }
+    ensures { world result directory.new bytes.new ≡ run_of pass (piece_puts name.now p.0 t) (world total directory.old bytes.old) }
 {
     match t {
         Piece::String { start, end } => {
@@ -58,7 +58,7 @@ pub fn put_value(
 ) -> u32
     requires p_bound { (p.0 ≤ 128) × ChoiceWithin name.now c }
     requires roomy { Roomy pass (value_puts name.now p.0 c) (world total directory.old bytes.old) }
-    ensures { world result (left directory) (left bytes) ≡ run_of pass (value_puts (lent name) p.0 c) (world total (lent directory) (lent bytes)) }
+    ensures { world result directory.new bytes.new ≡ run_of pass (value_puts name.now p.0 c) (world total directory.old bytes.old) }
 {
     match c {
         Choice::Itself(t) => put_piece(pass, total, directory, bytes, name, p, t),

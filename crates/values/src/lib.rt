@@ -1,9 +1,9 @@
 // The tokens whose values stand in the block's bytes.
+#![tactic(auto)]
 ghost use Rattle.std.specs.Prelude.{◌≡◌, ◌≤◌};
 ghost use Rattle.block.specs.Open.{Open};
 ghost use Rattle.sources.specs.Source.{source};
 ghost use Rattle.numbering.specs.Types.{Rules};
-ghost use Rattle.base.specs.Lent.{lent};
 ghost use Rattle.values.specs.Values.{string_step, char_step, digits_step, with_width, padded_of, padded_in, padded_step, digits0_step};
 
 use block::stream;
@@ -11,7 +11,7 @@ use spans::{Cursor, NextByte, NextFour, NextText, Position};
 use tokens::{Padded, Text, Token};
 
 // What a step gives: it reads and judges, and writes nothing.
-#[derive(Drop)]
+#[derive(Clone, Copy)]
 pub enum Step {
     // A resolved token, beside the cursor past the bytes of its value (of its type, where MATCH has no value).
     Got(Token, Cursor),
@@ -20,7 +20,7 @@ pub enum Step {
 }
 
 // A number and its width, beside the cursor past the number.
-#[derive(Drop)]
+#[derive(Clone, Copy)]
 pub enum NextPadded {
     Value(Padded, Cursor),
     Short,
@@ -105,7 +105,7 @@ fn padded_of(number: NextFour, width: NextByte) -> NextPadded
 fn padded_in(bytes: &[u8], dir: &[u32], cursors: &[u32], p: Position) -> NextPadded
     requires fact { Open bytes.now dir.now cursors.now }
     requires p_bound { p.0 ≤ 128 }
-    ensures { (rules : Rules) → result ≡ padded_in (source rules (lent bytes) (lent dir) (lent cursors)) p.0 }
+    ensures { (rules : Rules) → result ≡ padded_in (source rules bytes.now dir.now cursors.now) p.0 }
 {
     let number = sources::four_in(bytes, dir, cursors, p, stream::DIGITS0);
     let width = sources::byte_in(bytes, dir, cursors, p, stream::DZLEN);
@@ -124,7 +124,7 @@ fn digits0_step(found: NextPadded) -> Step
 pub fn digits0_at(bytes: &[u8], dir: &[u32], cursors: &[u32], p: Position) -> Step
     requires fact { Open bytes.now dir.now cursors.now }
     requires p_bound { p.0 ≤ 128 }
-    ensures { (rules : Rules) → result ≡ digits0_step (padded_in (source rules (lent bytes) (lent dir) (lent cursors)) p.0) }
+    ensures { (rules : Rules) → result ≡ digits0_step (padded_in (source rules bytes.now dir.now cursors.now) p.0) }
 {
     digits0_step(padded_in(bytes, dir, cursors, p))
 }

@@ -1,6 +1,5 @@
 -- A walk over what it is lent: the name that it comes to, and what it puts down.
 use Rattle.std.specs.Prelude.{ℕ, Bool, List}
-use Rattle.std.specs.Borrow.{MutBor}
 use Rattle.base.specs.Choice.{pick}
 use Rattle.base.specs.Lent.{Buffer}
 use Rattle.block.specs.declared.Setting.{Setting}
@@ -12,12 +11,9 @@ use Rattle.names.specs.Judge.{draft_of}
 use Rattle.names.specs.Keeps.{Memory, put_name}
 
 -- the name in the block from its cursors on, over the earlier name's rows
-abbrev pub name_now : Setting → MutBor (List ℕ) → MutBor (List ℕ) → MutBor (List ℕ) → MutBor (List ℕ) → MutBor (List ℕ) → ℕ → ℕ → ℕ → Named
-name_now set bytes dir cursors text rows first count used =
-    name_of (source (rules_of set) bytes.now dir.now cursors.now) (earlier text.now (in_rows rows.now) first count) used cursors.now
-
 abbrev pub name_lent : Setting → Buffer → Buffer → Buffer → Buffer → Buffer → ℕ → ℕ → ℕ → Named
-name_lent set bytes dir cursors text rows = name_now set bytes.entry dir.entry cursors.entry text.entry rows.entry
+name_lent set bytes dir cursors text rows first count used =
+    name_of (source (rules_of set) bytes dir cursors) (earlier text (in_rows rows) first count) used cursors
 
 -- all of it where the name is being kept, and nothing where it is judged
 abbrev pub walk_put : Bool → ℕ → ℕ → Named → Memory → Memory

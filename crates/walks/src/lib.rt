@@ -1,6 +1,7 @@
 // A name walked from position 1 to its END: judged over what is lent and not written, or kept, which can't fail any more.
 // Both ways are one function, so that whoever walks twice has one place that a step is taken at.
 // A refused name alters nothing, and there is no scratch memory to hold it.
+#![tactic(auto)]
 ghost use Rattle.std.specs.Prelude.{◌≡◌, true, ◌≤◌, ◌<◌, ◌+◌, ◌^◌};
 ghost use Rattle.block.specs.Open.{Open};
 ghost use Rattle.sources.specs.Source.{earlier};
@@ -8,7 +9,7 @@ ghost use Rattle.repeats.specs.Sound.{Rows};
 ghost use Rattle.names.specs.Judge.{summary};
 ghost use Rattle.names.specs.Keeps.{Roomy, memory_lent, memory_left};
 ghost use Rattle.repeating.specs.Repeats.{Repeats};
-ghost use Rattle.walks.specs.Walks.{name_now, name_lent, walk_put};
+ghost use Rattle.walks.specs.Walks.{name_lent, walk_put};
 ghost use Rattle.tables.specs.Tables.{in_rows};
 
 use block::{Block, Setting};
@@ -37,9 +38,9 @@ pub fn walk(
     requires rows { Rows used (earlier text.old (in_rows rows.old) first count) }
     requires used_bound { (used < 2 ^ 31) × ((first + count ≤ row) × (row < 2 ^ 31)) }
     requires repeats { Repeats known (earlier text.old (in_rows rows.old) first count) }
-    requires roomy { keep ≡ true → Roomy (name_now set bytes dir cursors text rows first count used) (first + count) used row text.old (in_rows rows.old) }
-    ensures value { result ≡ summary (name_lent set bytes dir cursors text rows first count used) }
-    ensures cursors_value { memory_left text rows cursors ≡ walk_put keep used row (name_lent set bytes dir cursors text rows first count used) (memory_lent text rows cursors) }
+    requires roomy { keep ≡ true → Roomy (name_lent set bytes.now dir.now cursors.old text.old rows.old first count used) (first + count) used row text.old (in_rows rows.old) }
+    ensures value { result ≡ summary (name_lent set bytes.now dir.now cursors.old text.old rows.old first count used) }
+    ensures cursors_value { memory_left text.new rows.new cursors.new ≡ walk_put keep used row (name_lent set bytes.now dir.now cursors.old text.old rows.old first count used) (memory_lent text.old rows.old cursors.old) }
 {
     let end = runs::last(known, count);
     let mut p = Position(1);

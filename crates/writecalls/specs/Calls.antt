@@ -1,7 +1,7 @@
 -- What the exported writing leaves: its number, the directory, the bytes and the totals.
 -- The contract names the call's own buffers: what is left in them (`..Left`) is what the definition gives of what they are lent with (`..Lent`).
 use Rattle.std.specs.Prelude.{ℕ, List, [], ◌∷◌}
-use Rattle.base.specs.Lent.{Buffer, lent, left}
+use Rattle.base.specs.Lent.{Buffer}
 use Rattle.numbering.specs.Types.{Rules}
 use Rattle.writing.specs.declared.WriteAnswer.{WriteAnswer}
 use Rattle.writing.specs.declared.WriteAnswer.TheVariants as written
@@ -22,7 +22,7 @@ abbrev pub writes : ℕ → List ℕ → List ℕ → List ℕ → Writes
 writes n d b t = record { number = n; directory = d; bytes = b; totals = t }
 
 abbrev pub writes_left : ℕ → Buffer → Buffer → Buffer → Writes
-writes_left n directory bytes totals = writes n (left directory) (left bytes) (left totals)
+writes_left n directory bytes totals = writes n directory bytes totals
 
 -- names and bytes; a refused writing leaves the totals
 unfoldable pub written_totals : List ℕ → WriteAnswer → List ℕ
@@ -36,4 +36,4 @@ unfoldable pub write_call : Rules → List ℕ → List ℕ → List ℕ → Lis
 write_call rules input dir bytes totals = writes_of totals (write_of rules input dir bytes)
 
 abbrev pub write_call_lent : Rules → Buffer → Buffer → Buffer → Buffer → Writes
-write_call_lent rules input dir bytes totals = write_call rules (lent input) (lent dir) (lent bytes) (lent totals)
+write_call_lent rules input dir bytes totals = write_call rules input dir bytes totals

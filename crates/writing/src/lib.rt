@@ -1,17 +1,17 @@
 // Writing: names, each ended by byte 10, into token streams.
 // Judged first, with nothing written; then sizes, places and bytes, the directory counting on the way.
+#![tactic(auto)]
 ghost use Rattle.std.specs.Prelude.{◌≡◌, length};
 ghost use Rattle.classes.specs.Classes.{class_table};
 ghost use Rattle.numbering.specs.Types.{rules_of};
 ghost use Rattle.inputs.specs.Inputs.{names_of};
 ghost use Rattle.filling.specs.Ready.{Ready};
 ghost use Rattle.writing.specs.Writes.{writing, laid_of, write_of};
-ghost use Rattle.base.specs.Lent.{lent, left};
 
 use block::{Block, Refusal, Setting};
 use inputs::Judged;
 
-#[derive(Drop)]
+#[derive(Clone, Copy)]
 pub enum WriteAnswer {
     Written { names: u32, bytes: u32 },
     Refused(Refusal),
@@ -29,7 +29,7 @@ fn lay(
     requires table_value { table.now ≡ class_table }
     requires ready { Ready input.now directory.old }
     requires names_value { names ≡ length (names_of input.now) }
-    ensures { writing result (left directory) (left bytes) ≡ laid_of (rules_of set) (names_of (lent input)) (lent directory) (lent bytes) }
+    ensures { writing result directory.new bytes.new ≡ laid_of (rules_of set) (names_of input.now) directory.old bytes.old }
 {
     if !filling::fits(set, directory, bytes, table, input) {
         return WriteAnswer::Refused(Refusal::Plain(9));
@@ -42,7 +42,7 @@ fn lay(
 }
 
 pub fn write(set: Setting, input: &[u8], directory: &mut [u32], bytes: &mut [u8]) -> WriteAnswer
-    ensures { writing result (left directory) (left bytes) ≡ write_of (rules_of set) (lent input) (lent directory) (lent bytes) }
+    ensures { writing result directory.new bytes.new ≡ write_of (rules_of set) input.now directory.old bytes.old }
 {
     if directory.len() != Block::DIRECTORY {
         return WriteAnswer::Refused(Refusal::Plain(1));
