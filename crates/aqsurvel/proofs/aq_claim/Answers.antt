@@ -1,0 +1,5 @@
+use borrow.Author.Rules.{rules}
+use Rattle.aqsurvel.proofs.aq_claim.Goals as goal
+
+pub returns : goal.returns
+returns c = rw c.claim.ensures

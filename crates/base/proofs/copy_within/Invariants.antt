@@ -1,0 +1,15 @@
+use borrow.Author.Rules.{rules}
+use native.Mathlib.Omega.{arith}
+use Prim.Native.Nat.{◌-◌, ◌≤◌}
+use mathlib.Core.Path.{◌≡◌, refl, ◌∙◌}
+use lib.ListN.{length, length-set}
+use lib.Seq.{paste, paste-zero}
+use Rattle.base.specs.Memory.{part}
+use Rattle.base.proofs.Memory.{within_step, pasted, length_part}
+use Rattle.base.proofs.copy_within.Given as goal
+
+abbrev pub invariant-loop-j : goal.invariant-loop-j
+invariant-loop-j l = (l.j ≤ l.n) × ((l.n ≡ l.to - l.from) × ((length l.buf ≡ length l.initial.buf) × (l.buf ≡ paste l.initial.buf l.at (part l.initial.buf l.from l.to) l.j)))
+
+abbrev pub decreases-loop-j : goal.decreases-loop-j
+decreases-loop-j l = l.n - l.j

@@ -1,0 +1,23 @@
+use borrow.Author.Rules.{rules}
+use native.Mathlib.Omega.{arith}
+use Prim.Native.Nat.{◌≤◌, ◌-◌, ◌+◌}
+use mathlib.Core.Path.{◌≡◌}
+use Rattle.base.specs.Choice.{both}
+use Rattle.block.specs.Block.{end_of, cursor_of, at_end, at_end_from, all_at_end}
+use Rattle.base.proofs.Choice.{both_none, and_both}
+use Rattle.base.proofs.Every.{every_turn, every_done}
+use Rattle.block.proofs.at_end.Goals as goal
+
+pub loop-i-init : goal.loop-i-init
+loop-i-init c = (search rules, both_none _)
+
+pub loop-i-preserved : goal.loop-i-preserved
+unfolding at_end end_of cursor_of
+loop-i-preserved c = 
+    let l = c.loop-i in
+    let a = c.args in
+    (search rules, every_turn (at_end a.dir.now a.cursors.now) l.i (1290 - l.i) l.ok _ l.invariant.1 (1290 - (l.i + 1)) (omega arith) (rw and_both))
+
+pub returns : goal.returns
+unfolding all_at_end
+returns c = every_done _ _ _ _ _ c.loop-i.invariant.1 (omega arith)

@@ -1,0 +1,8 @@
+use mathlib.Core.Path.{refl}
+use Rattle.block.specs.Block.{span_of}
+use borrow.Author.Rules.{rules}
+use Rattle.block.proofs.span_of.Goals as goal
+
+pub returns : goal.returns
+unfolding span_of
+returns c = refl

@@ -1,0 +1,6 @@
+use Rattle.claimcalls.proofs.Laws.{claim_call_law}
+use borrow.Author.Rules.{rules}
+use Rattle.claimcalls.proofs.claim.Goals as goal
+
+pub returns : goal.returns
+returns c = claim_call_law _ _ _ _ _ _ c.state_in.ensures c.claim.ensures c.judged.ensures

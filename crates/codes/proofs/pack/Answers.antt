@@ -1,0 +1,8 @@
+use mathlib.Core.Path.{refl}
+use Rattle.codes.specs.Codes.{packed}
+use borrow.Author.Rules.{rules}
+use Rattle.codes.proofs.pack.Goals as goal
+
+pub returns : goal.returns
+unfolding packed
+returns c = refl

@@ -1,0 +1,16 @@
+use Prim.Native.Nat.{◌-◌, ◌≤◌}
+use mathlib.Core.Path.{◌≡◌, sym}
+use native.Mathlib.Omega.{arith}
+use lib.ListN.{length, drop}
+use borrow.Author.Rules.{rules}
+use Rattle.base.specs.Choice.{both}
+use Rattle.comparing.specs.Same.{same}
+use Rattle.comparing.proofs.Equal.{other_length, other_byte, same_none, same_turn, same_done}
+use Rattle.base.proofs.Choice.{both_none, and_both}
+use Rattle.comparing.proofs.same.Given as goal
+
+abbrev pub invariant-loop-i : goal.invariant-loop-i
+invariant-loop-i l = (both l.equal (same (drop l.i l.a) (drop l.i l.b)) ≡ same l.a l.b) × (l.i ≤ l.n)
+
+abbrev pub decreases-loop-i : goal.decreases-loop-i
+decreases-loop-i l = l.n - l.i

@@ -1,0 +1,6 @@
+use borrow.Author.Rules.{rules}
+use native.Mathlib.Omega.{arith}
+use Rattle.digits.proofs.lead.Goals as goal
+
+pub returns : goal.returns
+returns c = (omega arith, omega arith)

@@ -1,0 +1,32 @@
+use borrow.Author.Rules.{rules}
+use native.Mathlib.Omega.{arith}
+use Prim.Native.Nat.{ℕ, ◌+◌, ◌-◌, ◌<◌, ◌≤◌}
+use mathlib.Core.Path.{◌≡◌, refl}
+use mathlib.Core.List.{List}
+use lib.ListN.{length, length-set}
+use Rattle.base.specs.Memory.{written}
+use Rattle.digits.specs.Digits.{padded}
+use Rattle.digits.specs.Fractions.{whole, leading}
+use Rattle.digits.proofs.Fractions.{digits_more}
+use Rattle.digits.proofs.Steps.{digit_first, digits_done}
+use Rattle.digits.proofs.put_digits.Goals as goal
+
+pub loop-left-init : goal.loop-left-init
+loop-left-init c = record { within = refl; parts = search rules; size = refl; others = refl }
+
+pub loop-left-preserved : goal.loop-left-preserved
+loop-left-preserved c = 
+    let l = c.loop-left in
+    let d = c.lead-d.ensures in
+    record {
+      within = omega arith;
+      parts = omega (arith, d.1);
+      size = simp length-set l.invariant.size;
+      others = digit_first _ _ l.place l.buf _ (search rules) (digits_more l.rest l.left (l.left - 1) (omega arith) l.invariant.parts (omega (arith, d.1))) (omega (arith, d.0)) l.invariant.others;
+    }
+
+pub shape_of-buf : goal.shape_of-buf
+shape_of-buf c = c.loop-left.invariant.size
+
+pub returns : goal.returns
+returns c = let l = c.loop-left in digits_done _ _ l.place l.buf _ (omega arith) l.invariant.others

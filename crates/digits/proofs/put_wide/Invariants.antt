@@ -1,0 +1,26 @@
+use borrow.Author.Rules.{rules}
+use native.Mathlib.Omega.{arith}
+use Prim.Native.Nat.{ℕ, ◌+◌, ◌-◌, ◌≤◌}
+use mathlib.Core.Path.{◌≡◌, refl}
+use mathlib.Core.List.{List}
+use lib.ListN.{length, length-set}
+use Rattle.base.specs.Memory.{written}
+use Rattle.digits.specs.Digits.{padded}
+use Rattle.digits.specs.Fractions.{Begins}
+use Rattle.digits.proofs.Fractions.{begins_more, begins_rest}
+use Rattle.digits.proofs.Steps.{digit_first, digits_done}
+use Rattle.digits.proofs.put_wide.Given as goal
+
+-- the digits that are left, written behind those that stand, make the whole
+pub record Padded (n w : ℕ) (buf₀ : List ℕ) (at end : ℕ) (buf : List ℕ) (rest place : ℕ) : Type 0 where
+  ends : end ≡ at + w
+  within : place ≤ end
+  begins : (end - place ≡ 10 → ⊥) → Begins n (end - place) rest
+  size : length buf ≡ length buf₀
+  others : written buf place (padded n (end - place)) ≡ written buf₀ at (padded n w)
+
+abbrev pub invariant-loop-place : goal.invariant-loop-place
+invariant-loop-place l = Padded l.n l.w l.initial.buf l.at l.end l.buf l.rest l.place
+
+abbrev pub decreases-loop-place : goal.decreases-loop-place
+decreases-loop-place l = l.end - l.place

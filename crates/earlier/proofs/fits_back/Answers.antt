@@ -1,0 +1,6 @@
+use mathlib.Core.Path.{sym}
+use borrow.Author.Rules.{rules}
+use Rattle.earlier.proofs.fits_back.Goals as goal
+
+pub returns-then-known : goal.returns-then-known
+returns-then-known c = sym (c.requires.back_value c.if-known.true)

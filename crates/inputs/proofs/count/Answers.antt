@@ -1,0 +1,21 @@
+use Prim.Native.Nat.{◌+◌, ◌-◌, ◌≤◌}
+use mathlib.Core.List.{[]}
+use mathlib.Core.Path.{◌≡◌, ap}
+use native.Mathlib.Omega.{arith}
+use lib.ListN.{length, drop}
+use borrow.Author.Rules.{rules}
+use Rattle.inputs.specs.Inputs.{names_after, names_of}
+use Rattle.inputs.proofs.Laws.{names_out}
+use Rattle.inputs.proofs.count.Goals as goal
+
+pub loop-i-init : goal.loop-i-init
+unfolding names_of
+loop-i-init c = (search rules, (search rules, search rules))
+
+pub loop-i-preserved : goal.loop-i-preserved
+loop-i-preserved c = (omega arith, (omega arith, omega arith))
+
+pub returns : goal.returns
+returns c = 
+    let s = c.args.input.now in
+    omega (arith, ap length (names_out s [] (length s) (omega arith)))

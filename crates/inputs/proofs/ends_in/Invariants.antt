@@ -1,0 +1,16 @@
+use Prim.Native.Nat.{◌+◌, ◌-◌, ◌≤◌, ◌<◌}
+use mathlib.Core.Logic.{⊎_elim}
+use mathlib.Core.List.{[]}
+use mathlib.Core.Path.{◌≡◌}
+use native.Mathlib.Omega.{arith}
+use lib.ListN.{length, drop}
+use borrow.Author.Rules.{rules}
+use Rattle.inputs.specs.Inputs.{names_after}
+use Rattle.inputs.proofs.Laws.{count_here, count_next}
+use Rattle.inputs.proofs.ends_in.Given as goal
+
+abbrev pub invariant-loop-i : goal.invariant-loop-i
+invariant-loop-i l = ((l.from ≤ l.i) × (l.i ≤ l.to)) × ((l.n ≤ l.i - l.from) × (l.n + length (names_after [] (drop l.i l.input)) ≡ length (names_after [] (drop l.from l.input))))
+
+abbrev pub decreases-loop-i : goal.decreases-loop-i
+decreases-loop-i l = l.to - l.i

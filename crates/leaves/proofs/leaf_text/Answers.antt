@@ -1,0 +1,17 @@
+use mathlib.Core.Path.{refl, sym, ap, ◌∙◌}
+use Rattle.base.proofs.Choice.{took, left}
+use borrow.Author.Tests.{le-leb, lt-leb}
+use Rattle.leaves.specs.Leaves.{text_number}
+use borrow.Author.Rules.{rules}
+use Rattle.leaves.proofs.leaf_text.Goals as goal
+
+pub returns-then-bytes-end : goal.returns-then-bytes-end
+returns-then-bytes-end c = left _ _ (lt-leb _ _ c.if-bytes-end.true) refl
+
+pub returns-in-Bytes : goal.returns-in-Bytes
+unfolding text_number
+returns-in-Bytes c = took _ _ (le-leb _ _ c.if-bytes-end.false) (sym (ap text_number c.in-Bytes.is) ∙ ap text_number c.next_text.ensures)
+
+pub returns-in-Unended : goal.returns-in-Unended
+unfolding text_number
+returns-in-Unended c = took _ _ (le-leb _ _ c.if-bytes-end.false) (sym (ap text_number c.in-Unended.is) ∙ ap text_number c.next_text.ensures)

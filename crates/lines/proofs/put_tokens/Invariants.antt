@@ -1,0 +1,16 @@
+use Rattle.lines.proofs.Walks.{Walking, walk_start, walk_room, walk_more, walk_last, walk_end}
+use Rattle.splitting.proofs.Runs.{cut_range}
+use Rattle.splitting.proofs.Cuts.{cut_end}
+use Rattle.choices.proofs.Choices.{choice_within}
+use Rattle.pages.specs.Page.{page}
+use native.Mathlib.Omega.{arith}
+use lib.ListN.{length}
+use Prim.Native.Nat.{◌-◌, ◌≤◌, ◌<◌}
+use mathlib.Core.Path.{◌≡◌, refl, ◌∙◌}
+use Rattle.lines.proofs.put_tokens.Given as goal
+
+abbrev pub invariant-loop-a : goal.invariant-loop-a
+invariant-loop-a l = (length l.out ≡ length l.initial.out) × Walking l.before l.name (page l.initial.out l.at) (page l.out l.next) l.p l.a l.b
+
+abbrev pub decreases-loop-a : goal.decreases-loop-a
+decreases-loop-a l = length l.name - l.a

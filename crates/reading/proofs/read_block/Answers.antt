@@ -1,0 +1,22 @@
+use Rattle.reading.proofs.Loops.{block_starts, block_is, block_refused}
+use Rattle.base.proofs.Choice.{pick_true}
+use mathlib.Core.Path.{refl, ◌∙◌}
+use borrow.Author.Rules.{rules}
+use Rattle.numbering.specs.Types.{rules_of}
+use Rattle.tables.specs.Tables.{in_rows}
+use Rattle.reading.proofs.read_block.Goals as goal
+
+pub reads-requires : goal.reads-requires
+reads-requires c = 
+    let a = c.args in
+    block_starts (rules_of a.set) a.bytes.now a.dir.now a.cursors.now a.text.now a.entries.now (in_rows a.rows.now) a.state a.count c.open.ensures c.in-Fresh.is -- ?? fact,counted,known
+
+pub returns-in-Fresh : goal.returns-in-Fresh
+returns-in-Fresh c = 
+    let a = c.args in
+    block_is (rules_of a.set) a.bytes.now a.dir.now a.cursors.now a.text.now a.entries.now (in_rows a.rows.now) a.state a.count c.open.ensures c.in-Fresh.is (c.reads.ensures ∙ pick_true _ _ refl)
+
+pub returns-in-Refused : goal.returns-in-Refused
+returns-in-Refused c = 
+    let a = c.args in
+    block_refused (rules_of a.set) a.bytes.now a.dir.now a.cursors.now a.text.now a.entries.now (in_rows a.rows.now) a.state a.count c.open.ensures c.in-Refused.is

@@ -1,0 +1,13 @@
+use mathlib.Core.Path.{refl, sym, ◌∙◌}
+use borrow.Author.Rules.{rules}
+use Rattle.base.proofs.Choice.{took, left}
+use Rattle.references.specs.References.{leans_on}
+use Rattle.references.proofs.leans_on.Goals as goal
+
+pub returns-then-is_anew : goal.returns-then-is_anew
+unfolding leans_on
+returns-then-is_anew c = took _ _ (sym c.?After-shared_slice_known.is-anew.ensures ∙ c.?After-is_anew.if1.true) refl
+
+pub returns : goal.returns
+unfolding leans_on
+returns c = left _ _ (sym c.is_anew.ensures ∙ c.if-is_anew.false) refl
