@@ -3,6 +3,7 @@ use Prim.Native.Nat.{ℕ, ◌≤◌, ◌<◌}
 use mathlib.Core.Path.{◌≡◌, refl, sym, ◌∙◌, subst}
 use mathlib.Core.Bool.{true, false}
 use mathlib.Core.List.{List}
+use native.Mathlib.Omega.{arith}
 use borrow.Author.Tests.{lt-ltb, le-ltb, ltb-true, ltb-false}
 use lib.Dec.{ltb}
 use lib.ListN.{length}
@@ -87,11 +88,25 @@ module _ (number : ℕ) (claim : List ℕ) (s : State) (text names : List ℕ) w
   of_denied : Cause number claim s text names Denied → Answerable number s text names × (claim ≡ whole_name number text names → ⊥)
   of_denied (differs t n) = (t, n)
 
+  eleven_cause : {v : Verdict} → Cause number claim s text names v → v ≡ Refused (refusal.At 11 number) → TextCounted s text names × (s.names ≤ number)
+  eleven_cause (counts_outside n) e = cc
+  eleven_cause (not_kept t h) e = (t, h)
+  eleven_cause (text_outside t h n) e = let z : ◌≡◌ {A = ℕ} 13 11 = cc in absurd (omega arith)
+  eleven_cause (differs t n) e = cc
+  eleven_cause (agrees t n) e = cc
+
   of_eleven : Cause number claim s text names (Refused (refusal.At 11 number)) → TextCounted s text names × (s.names ≤ number)
-  of_eleven (not_kept t h) = (t, h)
+  of_eleven c = eleven_cause c refl
+
+  thirteen_at_cause : {v : Verdict} → Cause number claim s text names v → v ≡ Refused (refusal.At 13 number) → TextCounted s text names × ((number < s.names) × (TextInside s (entry_at names number) → ⊥))
+  thirteen_at_cause (counts_outside n) e = cc
+  thirteen_at_cause (not_kept t h) e = let z : ◌≡◌ {A = ℕ} 11 13 = cc in absurd (omega arith)
+  thirteen_at_cause (text_outside t h n) e = (t, (h, n))
+  thirteen_at_cause (differs t n) e = cc
+  thirteen_at_cause (agrees t n) e = cc
 
   of_thirteen_at : Cause number claim s text names (Refused (refusal.At 13 number)) → TextCounted s text names × ((number < s.names) × (TextInside s (entry_at names number) → ⊥))
-  of_thirteen_at (text_outside t h n) = (t, (h, n))
+  of_thirteen_at c = thirteen_at_cause c refl
 
   of_thirteen : Cause number claim s text names (Refused (refusal.Plain 13)) → TextCounted s text names → ⊥
   of_thirteen (counts_outside n) = n

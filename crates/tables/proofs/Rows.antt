@@ -65,6 +65,10 @@ module _ (l : List ℕ) (n : ℕ) where
   unfolding row_room
   numbers_room = room_of_law row_size (omega arith) l n
 
+-- the numbers of a row that there is room for
+pub row_reach : (rows : List ℕ) (i : ℕ) → i < row_room (in_rows rows) → row_size * i + row_size ≤ length rows
+row_reach rows i h = omega (arith, room_numbers rows (i + 1) (omega arith))
+
 -- numbers of so many bits are those of rows
 pub numbers_below : (n : ℕ) (l : List ℕ) → Below n l → RowsBelow n (in_rows l)
 unfolding row_at

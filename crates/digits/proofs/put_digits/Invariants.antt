@@ -13,10 +13,10 @@ use Rattle.digits.proofs.put_digits.Given as goal
 
 -- the digits of what is left, written behind those that stand, make the whole
 pub record Filled (f w : ℕ) (buf₀ : List ℕ) (at : ℕ) (buf : List ℕ) (rest left place : ℕ) : Type 0 where
-  within : place + left ≡ at + w
-  parts : rest < whole
-  size : length buf ≡ length buf₀
-  others : written buf place (padded (leading rest left) left) ≡ written buf₀ at (padded (leading f w) w)
+  pub within : place + left ≡ at + w
+  pub parts : rest < whole
+  pub size : length buf ≡ length buf₀
+  pub others : written buf place (padded (leading rest left) left) ≡ written buf₀ at (padded (leading f w) w)
 
 abbrev pub invariant-loop-left : goal.invariant-loop-left
 invariant-loop-left l = Filled l.f l.w l.initial.buf l.at l.buf l.rest l.left l.place
