@@ -1,5 +1,6 @@
 // The answer of a read and the verdict on a claim as numbers.
 #![tactic(auto)]
+
 ghost use Rattle.std.specs.Prelude.{◌≡◌};
 ghost use Rattle.answers.specs.Answers.{read_number, verdict_number};
 

@@ -1,5 +1,6 @@
 // The C boundary: each call of the library behind a C function that hands on what it is lent.
 #![tactic(auto)]
+
 ghost use Rattle.std.specs.Prelude.{◌≡◌};
 ghost use Rattle.numbering.specs.Types.{rules_of, draft_plain};
 ghost use Rattle.opencalls.specs.Calls.{opens_left, open_call_lent};

@@ -1,5 +1,6 @@
 // The last position.
 #![tactic(auto)]
+
 ghost use Rattle.std.specs.Prelude.{◌≡◌};
 ghost use Rattle.bars.specs.Bars.{is_last};
 

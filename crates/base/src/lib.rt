@@ -1,6 +1,7 @@
 // What every layer stands on: choosing by a test, parts of lent memory and writes to it.
 // Nothing here knows the format.
 #![tactic(auto)]
+
 ghost use Rattle.std.specs.Prelude.{◌≡◌, [], ◌∷◌, ◌≤◌, ◌+◌, ◌-◌, length};
 ghost use Rattle.base.specs.Memory.{written, part};
 

@@ -1,6 +1,7 @@
 // The block: a lent run of bytes, a directory of spans with a cursor each, and a count of names.
 // Its limits, where its spans and cursors are, the judgement of both, and opening.
 #![tactic(auto)]
+
 ghost use Rattle.std.specs.Prelude.{◌≡◌, ℕ, ◌≤◌, ◌<◌, ◌+◌, ◌*◌, ◌^◌, leb, length};
 ghost use Rattle.block.specs.Block.{span_of, end_of, cursor_of, sound_from, sound, all_inside, verdict, verdict_of, all_at_end, starts, opening, open_of};
 

@@ -1,5 +1,6 @@
 // The writer's choice for each token of a name: the token itself, a delta, MATCH or END.
 #![tactic(auto)]
+
 ghost use Rattle.std.specs.Prelude.{◌≡◌, ◌≤◌, ◌<◌, length};
 ghost use Rattle.classes.specs.Classes.{class_table};
 ghost use Rattle.splitting.specs.Split.{cut_of};

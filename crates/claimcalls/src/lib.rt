@@ -1,5 +1,6 @@
 // A claim as a C function answers it: the verdict one number.
 #![tactic(auto)]
+
 ghost use Rattle.std.specs.Prelude.{◌≡◌};
 ghost use Rattle.claimcalls.specs.Calls.{claim_call_lent};
 

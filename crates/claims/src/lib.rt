@@ -1,6 +1,7 @@
 // Claims: does a name that the card returned have all the bytes of the name that was read, and nothing else?
 // A claim is handed no row table, judges nothing about rows and changes nothing.
 #![tactic(auto)]
+
 ghost use Rattle.std.specs.Prelude.{◌≡◌};
 ghost use Rattle.claims.specs.Claims.{claim_of};
 

@@ -2,6 +2,7 @@
 // A caller makes the table once and lends it, since a constant is built anew wherever it is read.
 // Reading asks only what SAM allows and holds no table: it compares.
 #![tactic(auto)]
+
 ghost use Rattle.std.specs.Prelude.{◌≡◌, ◌≤◌, leb, length};
 ghost use Rattle.base.specs.Choice.{both};
 ghost use Rattle.base.specs.Memory.{part};

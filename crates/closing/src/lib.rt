@@ -1,5 +1,6 @@
 // The line that closes a listing: the totals, of names and of bytes; or the refusal, which stands alone.
 #![tactic(auto)]
+
 ghost use Rattle.std.specs.Prelude.{◌≡◌};
 ghost use Rattle.pages.specs.Page.{page, said, HasRoom};
 ghost use Rattle.closing.specs.Closing.{refusal_text, totals_text};

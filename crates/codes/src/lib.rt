@@ -1,5 +1,6 @@
 // The numbers of the C boundary: a code with its value as one, and the state as four.
 #![tactic(auto)]
+
 ghost use Rattle.std.specs.Prelude.{◌≡◌};
 ghost use Rattle.codes.specs.Codes.{packed, refusal_number, state_in, state_out};
 

@@ -1,5 +1,6 @@
 // When two texts are the same.
 #![tactic(auto)]
+
 ghost use Rattle.std.specs.Prelude.{◌≡◌};
 ghost use Rattle.comparing.specs.Same.{same};
 

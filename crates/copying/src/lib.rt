@@ -1,5 +1,6 @@
 // A name that is a copy of an earlier one, kept with its entry.
 #![tactic(auto)]
+
 ghost use Rattle.std.specs.Prelude.{◌≡◌, List, ℕ, length};
 ghost use Rattle.tables.specs.Tables.{keeping, tables_lent, in_rows};
 ghost use Rattle.kept.specs.Inside.{Counted, TextInside};

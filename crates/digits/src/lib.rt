@@ -1,6 +1,7 @@
 // Numbers in base ten: how many digits, printed plainly or at a width, and read back.
 // How a number is printed is known here only; callers go by the laws of proofs/Laws.
 #![tactic(auto)]
+
 ghost use Rattle.std.specs.Prelude.{◌≡◌, true, ◌+◌, ◌*◌, ◌/◌, ◌%◌, ◌^◌, ◌≤◌, ◌<◌, length};
 ghost use Rattle.base.specs.Memory.{written};
 ghost use Rattle.digits.specs.Digits.{padded, digit_count, printed, fits_width};

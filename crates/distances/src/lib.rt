@@ -1,5 +1,6 @@
 // The distance of a name's head: how far back DUP and DIFF may refer.
 #![tactic(auto)]
+
 ghost use Rattle.std.specs.Prelude.{◌≡◌};
 ghost use Rattle.distances.specs.Distances.{dup_fits, diff_fits, dup_head, diff_head};
 

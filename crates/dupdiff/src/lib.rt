@@ -1,5 +1,6 @@
 // DUP and DIFF, with the earlier name judged or known to fit.
 #![tactic(auto)]
+
 ghost use Rattle.std.specs.Prelude.{◌≡◌, List, ℕ, ◌≤◌, length};
 ghost use Rattle.block.specs.Open.{Open};
 ghost use Rattle.tables.specs.Tables.{keeping, tables_lent, in_rows};

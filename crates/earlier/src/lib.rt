@@ -1,5 +1,6 @@
 // The earlier name: judged or known to fit, and the rows that DIFF goes by.
 #![tactic(auto)]
+
 ghost use Rattle.std.specs.Prelude.{◌≡◌, true, [], ◌+◌, ◌*◌, ◌≤◌, length};
 ghost use Rattle.tables.specs.Tables.{entry_size, keeping, entry_at, in_rows, row_room, rows_lent};
 ghost use Rattle.kept.specs.Judgement.{earlier_fits};

@@ -1,5 +1,6 @@
 // A name's END: where the name is judged, that it isn't empty; where it is kept, what follows it.
 #![tactic(auto)]
+
 ghost use Rattle.std.specs.Prelude.{◌≡◌, true, [], ◌∷◌, ◌≤◌, ◌<◌, ◌+◌, ◌-◌, ◌^◌, length};
 ghost use Rattle.base.specs.Choice.{pick};
 ghost use Rattle.base.specs.Memory.{written};

@@ -1,5 +1,6 @@
 // The answer of a read, and a name's entry: room for it, and the state after it.
 #![tactic(auto)]
+
 ghost use Rattle.std.specs.Prelude.{◌≡◌, ◌+◌, ◌*◌, ◌^◌, ◌≤◌, ◌<◌, length};
 ghost use Rattle.base.specs.Memory.{written};
 ghost use Rattle.tables.specs.Tables.{entry_size, tables_lent};

@@ -1,5 +1,6 @@
 // Room for all that the names put, and the directory and the bytes filled with it.
 #![tactic(auto)]
+
 ghost use Rattle.std.specs.Prelude.{◌≡◌, ◌≤◌, leb, length};
 ghost use Rattle.classes.specs.Classes.{class_table};
 ghost use Rattle.numbering.specs.Types.{rules_of};

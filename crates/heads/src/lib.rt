@@ -1,5 +1,6 @@
 // Position 0: DUP or DIFF, and the distance.
 #![tactic(auto)]
+
 ghost use Rattle.std.specs.Prelude.{◌≡◌, ◌≤◌, length};
 ghost use Rattle.block.specs.Open.{Open};
 ghost use Rattle.numbering.specs.Types.{Rules};

@@ -1,6 +1,7 @@
 // The inner read: one name, where the block is known to be open and the counts to be judged;
 // the earlier name too, where all that is kept is known to fit and to be spelt: from opening on that stays so.
 #![tactic(auto)]
+
 ghost use Rattle.std.specs.Prelude.{◌≡◌, length};
 ghost use Rattle.block.specs.Open.{Open};
 ghost use Rattle.block.specs.Block.{all_at_end};

@@ -1,5 +1,6 @@
 // The names of an input, found by their byte 10, counted and judged.
 #![tactic(auto)]
+
 ghost use Rattle.std.specs.Prelude.{◌≡◌, true, ◌≤◌, ◌<◌, ◌+◌, ◌-◌, [], length, drop};
 ghost use Rattle.classes.specs.Classes.{class_table};
 ghost use Rattle.inputs.specs.Inputs.{NameAt, AllowedTo, names_after, names_of, ended, judged_from};

@@ -1,6 +1,7 @@
 // Bytes put into spans: sizes counted, spans laid one after another in directory order with no gaps, then filled.
 // Nothing here knows names or tokens.
 #![tactic(auto)]
+
 ghost use Rattle.std.specs.Prelude.{◌≡◌, true, [], ◌∷◌, ◌++◌, ◌≤◌, ◌<◌, ◌+◌, ◌-◌, ◌^◌, length};
 ghost use Rattle.base.specs.Choice.{pick};
 ghost use Rattle.base.specs.Memory.{written, part};

@@ -1,6 +1,7 @@
 // The leaves, exported for tests: printing, widths, classes, what stands at a cursor, the judgement of the tables; and the listing.
 // Not for users: the library's own boundary is another crate.
 #![tactic(auto)]
+
 ghost use Rattle.std.specs.Prelude.{◌≡◌, true, ◌+◌, leb, length};
 ghost use Rattle.base.specs.Choice.{pick, both};
 ghost use Rattle.digits.specs.Digits.{printed, padded, fits_width};

@@ -1,5 +1,6 @@
 // A line a name: its number, DIFF or DUP with the distance, then each token as written.
 #![tactic(auto)]
+
 ghost use Rattle.std.specs.Prelude.{◌≡◌, true, ◌++◌, ◌≤◌, length};
 ghost use Rattle.digits.specs.Digits.{printed};
 ghost use Rattle.classes.specs.Classes.{class_table};

@@ -1,5 +1,6 @@
 // The listing of an input: a line a name, as the writer writes it, and the totals; or the writer's refusal.
 #![tactic(auto)]
+
 ghost use Rattle.std.specs.Prelude.{◌≡◌, ◌≤◌, length};
 ghost use Rattle.base.specs.Memory.{written};
 ghost use Rattle.classes.specs.Classes.{class_table};

@@ -1,6 +1,7 @@
 // The listing program: names on standard input, a line a name on standard output, and the totals; or a refusal.
 // What it prints is the contract of `listed::list`; that its own room always suffices is proved there too.
 #![tactic(auto)]
+
 fn main() {
     // One byte more than an input may have tells that there are more.
     let mut input = [0u8; 4097];

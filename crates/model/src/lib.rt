@@ -1,6 +1,7 @@
 // The adaptive model's table: its start, and what one symbol that was seen does to it.
 // The functions work on as many places as the table has; whoever calls them lends no more.
 #![tactic(auto)]
+
 ghost use Rattle.std.specs.Prelude.{◌≡◌, ℕ, ◌≤◌, ◌<◌, ◌^◌, List, length};
 ghost use Rattle.model.specs.Model.{model, places, started, place_of, halves, sum, settled, raised, step_at};
 ghost use Rattle.model.specs.Sound.{Sound};

@@ -1,5 +1,6 @@
 // A replay as a C function leaves it: the answer one number, and the record taken apart.
 #![tactic(auto)]
+
 ghost use Rattle.std.specs.Prelude.{◌≡◌};
 ghost use Rattle.modelcalls.specs.Calls.{replays_left, replay_call_lent};
 

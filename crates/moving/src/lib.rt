@@ -1,5 +1,6 @@
 // The cursors past what a name has read.
 #![tactic(auto)]
+
 ghost use Rattle.std.specs.Prelude.{◌≡◌, ◌≤◌, ◌<◌, ◌+◌, ◌^◌, length, set};
 ghost use Rattle.block.specs.Block.{span_of, cursor_of};
 ghost use Rattle.moving.specs.Moves.{past, value_past, Movable};

@@ -1,5 +1,6 @@
 // What a name is, and a token of it: judged over what is lent and not written, or kept, which can't fail any more.
 #![tactic(auto)]
+
 pub mod judging;
 pub mod keeping;
 

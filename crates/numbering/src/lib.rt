@@ -1,5 +1,6 @@
 // The types of tokens, as the stream says them: the numbers that a kind of block gives them, there and back.
 #![tactic(auto)]
+
 ghost use Rattle.std.specs.Prelude.{◌≡◌};
 ghost use Rattle.numbering.specs.Types.{draft_numbers, numbers_of, type_of, type_number};
 

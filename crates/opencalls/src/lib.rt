@@ -1,6 +1,7 @@
 // Opening as a C function leaves it: the answer one number, the state as four.
 // A refused call leaves what it may write as it was, the state too.
 #![tactic(auto)]
+
 ghost use Rattle.std.specs.Prelude.{◌≡◌};
 ghost use Rattle.opencalls.specs.Calls.{opens_left, open_call_lent};
 

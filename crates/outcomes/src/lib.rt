@@ -1,5 +1,6 @@
 // What a read leaves: a refusal, or a name kept.
 #![tactic(auto)]
+
 ghost use Rattle.std.specs.Prelude.{◌≡◌};
 ghost use Rattle.outcomes.specs.Outcomes.{refusing, refusing_plain};
 

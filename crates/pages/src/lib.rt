@@ -1,6 +1,7 @@
 // A text put behind what is written: bytes, a part of a name, a number, a word with its number.
 // Each function puts a text behind what is written and answers the place behind it.
 #![tactic(auto)]
+
 ghost use Rattle.std.specs.Prelude.{◌≡◌, ◌++◌, ◌≤◌, length};
 ghost use Rattle.base.specs.Memory.{part};
 ghost use Rattle.digits.specs.Digits.{printed};

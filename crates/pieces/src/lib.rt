@@ -1,5 +1,6 @@
 // What stands between a place of a name and its cut.
 #![tactic(auto)]
+
 ghost use Rattle.std.specs.Prelude.{◌≡◌, ◌≤◌, ◌<◌, ◌-◌, length};
 ghost use Rattle.base.specs.Memory.{part};
 ghost use Rattle.digits.specs.Digits.{value_of};

@@ -1,6 +1,7 @@
 // A read and a whole block as C functions leave them: the answer one number, the state as four.
 // A refused read leaves what it may write as it was, the state too; a whole block keeps what was done before the refusal.
 #![tactic(auto)]
+
 ghost use Rattle.std.specs.Prelude.{◌≡◌};
 ghost use Rattle.numbering.specs.Types.{rules_of};
 ghost use Rattle.readcalls.specs.Calls.{reads_left, read_call_lent, block_call_lent};

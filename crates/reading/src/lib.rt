@@ -1,6 +1,7 @@
 // Reading: one name judged and then kept, one name a call, and a whole block.
 // What the public calls judge is what the inner read requires, so that a whole block judges it once.
 #![tactic(auto)]
+
 ghost use Rattle.std.specs.Prelude.{◌≡◌};
 ghost use Rattle.tables.specs.Tables.{tables_lent};
 ghost use Rattle.sources.specs.Source.{block_lent};

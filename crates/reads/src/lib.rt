@@ -1,5 +1,6 @@
 // Reads one after another, each of them the inner read.
 #![tactic(auto)]
+
 ghost use Rattle.std.specs.Prelude.{◌≡◌};
 ghost use Rattle.base.specs.Choice.{both};
 ghost use Rattle.block.specs.Open.{Open};

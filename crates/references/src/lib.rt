@@ -1,5 +1,6 @@
 // What a name refers to at position 0, and the name whose rows it leans on.
 #![tactic(auto)]
+
 ghost use Rattle.std.specs.Prelude.{◌≡◌};
 ghost use Rattle.references.specs.References.{anew, reference_of, leans_on};
 

@@ -1,5 +1,6 @@
 // A run of MATCHes repeated in one go: the texts of its rows, its rows, and the cursors past its types.
 #![tactic(auto)]
+
 ghost use Rattle.std.specs.Prelude.{◌≡◌, ℕ, ◌≤◌, ◌<◌, ◌+◌, ◌-◌, ◌^◌, length};
 ghost use Rattle.block.specs.Block.{span_of, cursor_of};
 ghost use Rattle.tables.specs.Tables.{row_at, in_rows, row_room, put_rows, rows_lent, rows_left};

@@ -1,5 +1,6 @@
 // A trace of symbols replayed: the table that a model should end with.
 #![tactic(auto)]
+
 ghost use Rattle.std.specs.Prelude.{◌≡◌, ◌≤◌, length};
 ghost use Rattle.model.specs.Model.{model, places};
 ghost use Rattle.model.specs.Sound.{Sound};

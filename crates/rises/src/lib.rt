@@ -1,5 +1,6 @@
 // How far a number is above the earlier row's.
 #![tactic(auto)]
+
 ghost use Rattle.std.specs.Prelude.{◌≡◌};
 ghost use Rattle.rises.specs.Rises.{rise_of};
 

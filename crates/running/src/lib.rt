@@ -1,5 +1,6 @@
 // A run of MATCHes against rows that are known to be spelt: found by its types, and repeated in one go.
 #![tactic(auto)]
+
 ghost use Rattle.std.specs.Prelude.{◌≡◌, true, ◌≤◌, ◌<◌, ◌+◌, ◌^◌};
 ghost use Rattle.block.specs.Open.{Open};
 ghost use Rattle.sources.specs.Source.{earlier};

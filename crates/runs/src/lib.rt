@@ -1,5 +1,6 @@
 // A run of MATCHes found: how far it may go, where it ends by its types, and how many bytes its rows have.
 #![tactic(auto)]
+
 ghost use Rattle.std.specs.Prelude.{◌≡◌, ◌≤◌, ◌<◌, ◌+◌, ◌-◌, ◌^◌, length};
 ghost use Rattle.base.specs.Choice.{pick};
 ghost use Rattle.block.specs.Open.{Open};

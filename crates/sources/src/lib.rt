@@ -1,5 +1,6 @@
 // What a position's spans give next.
 #![tactic(auto)]
+
 ghost use Rattle.std.specs.Prelude.{◌≡◌, ◌≤◌};
 ghost use Rattle.block.specs.Open.{Open};
 ghost use Rattle.sources.specs.Source.{byte_in, four_in, text_in, source};

@@ -1,6 +1,7 @@
 // What stands at a cursor: the next byte, the next four as a number, or the text up to a zero byte.
 // Distances, positions and cursors are types of their own, so that none is taken for another.
 #![tactic(auto)]
+
 ghost use Rattle.std.specs.Prelude.{◌≡◌, ◌≤◌, ◌+◌, ◌*◌, length};
 ghost use Rattle.spans.specs.Spans.{byte_at, four_at, text_at};
 

@@ -1,6 +1,7 @@
 // Where a name is split into tokens: runs, and the cut behind each token.
 // Places count bytes of the name, from its start.
 #![tactic(auto)]
+
 ghost use Rattle.std.specs.Prelude.{◌≡◌, ◌≤◌, ◌<◌, ◌-◌, length, get_or};
 ghost use Rattle.classes.specs.Classes.{digit_class, class_of, class_table};
 ghost use Rattle.splitting.specs.Split.{run_end, number_run, run_limit, cut_of};

@@ -1,6 +1,7 @@
 // One token: read at its position's spans and resolved against the earlier name's row there.
 // A step reads and judges; it writes nothing.
 #![tactic(auto)]
+
 ghost use Rattle.std.specs.Prelude.{◌≡◌, ℕ, ◌≤◌, ◌<◌, ◌+◌, ◌^◌};
 ghost use Rattle.block.specs.Open.{Open};
 ghost use Rattle.base.specs.Choice.{pick};

@@ -1,5 +1,6 @@
 // One byte added to a number of the earlier name: DDELTA and DDELTA0 once their row is found.
 #![tactic(auto)]
+
 ghost use Rattle.std.specs.Prelude.{◌≡◌};
 ghost use Rattle.sums.specs.Sums.{delta_step, delta0_step};
 

@@ -2,6 +2,7 @@
 // one that puts it (`row_at` is `row_in` for a row's number as tables have it).
 // Places are counted in usize, since a size times a number may be past 2^32.
 #![tactic(auto)]
+
 ghost use Rattle.std.specs.Prelude.{◌≡◌, ◌≤◌, ◌<◌, ◌+◌, ◌*◌, [], ◌∷◌, length};
 ghost use Rattle.base.specs.Memory.{written};
 ghost use Rattle.tables.specs.Tables.{entry_size, in_rows, row_room, entry_at, row_at, put_rows, entry_numbers, rows_lent, rows_left};

@@ -1,5 +1,6 @@
 // One token of a name taken where a turn stands: judged over what is lent and not written, or kept.
 #![tactic(auto)]
+
 ghost use Rattle.std.specs.Prelude.{◌≡◌, true};
 ghost use Rattle.numbering.specs.Types.{numbers_of};
 ghost use Rattle.tokens.specs.Inside.{Inside};

@@ -1,5 +1,6 @@
 // A token as it is listed: its type, and its text or number.
 #![tactic(auto)]
+
 ghost use Rattle.std.specs.Prelude.{◌≡◌, ◌≤◌, length};
 ghost use Rattle.pieces.specs.Pieces.{Within};
 ghost use Rattle.choices.specs.Choices.{ChoiceWithin};

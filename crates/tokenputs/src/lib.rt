@@ -1,5 +1,6 @@
 // What a name's tokens put into the spans, each its type and its value, for whatever the pass does with it.
 #![tactic(auto)]
+
 ghost use Rattle.std.specs.Prelude.{◌≡◌, ◌≤◌, ◌<◌};
 ghost use Rattle.classes.specs.Classes.{class_table};
 ghost use Rattle.choices.specs.Choices.{ChoiceWithin, choices_of};

@@ -1,5 +1,6 @@
 // One turn of the walk over a name, which is taken twice: what stands at a position, judged or kept.
 #![tactic(auto)]
+
 ghost use Rattle.std.specs.Prelude.{◌≡◌, true, ◌≤◌, ◌+◌};
 ghost use Rattle.block.specs.Open.{Open};
 ghost use Rattle.sources.specs.Source.{earlier};

@@ -1,5 +1,6 @@
 // What the value of a token puts into the spans, for whatever the pass does with it.
 #![tactic(auto)]
+
 ghost use Rattle.std.specs.Prelude.{◌≡◌, ◌≤◌};
 ghost use Rattle.pieces.specs.Pieces.{Within};
 ghost use Rattle.choices.specs.Choices.{ChoiceWithin};

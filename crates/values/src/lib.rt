@@ -1,5 +1,6 @@
 // The tokens whose values stand in the block's bytes.
 #![tactic(auto)]
+
 ghost use Rattle.std.specs.Prelude.{◌≡◌, ◌≤◌};
 ghost use Rattle.block.specs.Open.{Open};
 ghost use Rattle.sources.specs.Source.{source};

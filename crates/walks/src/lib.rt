@@ -2,6 +2,7 @@
 // Both ways are one function, so that whoever walks twice has one place that a step is taken at.
 // A refused name alters nothing, and there is no scratch memory to hold it.
 #![tactic(auto)]
+
 ghost use Rattle.std.specs.Prelude.{◌≡◌, true, ◌≤◌, ◌<◌, ◌+◌, ◌^◌};
 ghost use Rattle.block.specs.Open.{Open};
 ghost use Rattle.sources.specs.Source.{earlier};

@@ -1,6 +1,7 @@
 // Writing as a C function leaves it: the answer one number, the totals as two.
 // A refused call leaves what it may write as it was, the totals too.
 #![tactic(auto)]
+
 ghost use Rattle.std.specs.Prelude.{◌≡◌};
 ghost use Rattle.numbering.specs.Types.{rules_of};
 ghost use Rattle.writecalls.specs.Calls.{writes_left, write_call_lent};

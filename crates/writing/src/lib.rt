@@ -1,6 +1,7 @@
 // Writing: names, each ended by byte 10, into token streams.
 // Judged first, with nothing written; then sizes, places and bytes, the directory counting on the way.
 #![tactic(auto)]
+
 ghost use Rattle.std.specs.Prelude.{◌≡◌, length};
 ghost use Rattle.classes.specs.Classes.{class_table};
 ghost use Rattle.numbering.specs.Types.{rules_of};

@@ -13,7 +13,7 @@ pub loop-j-init : goal.loop-j-init
 loop-j-init c = let a = c.args in (search rules, (refl, (refl, paste-zero a.dst.now a.at (part a.src.now a.from a.to))))
 
 pub loop-j-preserved : goal.loop-j-preserved
-loop-j-preserved c = 
+loop-j-preserved c =
     let l = c.loop-j in
     let a = c.args in (
       omega arith,
@@ -31,7 +31,7 @@ pub shape_of-dst : goal.shape_of-dst
 shape_of-dst c = c.loop-j.invariant.1.1.0
 
 pub returns : goal.returns
-returns c = 
+returns c =
     let l = c.loop-j in
     let a = c.args in
     l.invariant.1.1.1 ∙ pasted a.dst.now a.at (part a.src.now a.from a.to) l.j (omega (arith, length_part a.src.now a.from a.to (omega arith) (omega arith)))

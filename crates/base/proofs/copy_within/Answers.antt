@@ -12,7 +12,7 @@ pub loop-j-init : goal.loop-j-init
 loop-j-init c = let a = c.args in (search rules, (refl, (refl, paste-zero a.buf.now a.at (part a.buf.now a.from a.to))))
 
 pub loop-j-preserved : goal.loop-j-preserved
-loop-j-preserved c = 
+loop-j-preserved c =
     let l = c.loop-j in
     let a = c.args in (
       omega arith,
@@ -29,7 +29,7 @@ pub shape_of-buf : goal.shape_of-buf
 shape_of-buf c = c.loop-j.invariant.1.1.0
 
 pub returns : goal.returns
-returns c = 
+returns c =
     let l = c.loop-j in
     let a = c.args in
     l.invariant.1.1.1

@@ -17,6 +17,6 @@ pub bounds-table-at-5 : goal.bounds-table-at-5
 bounds-table-at-5 c = simp length-set (omega arith)
 
 pub returns : goal.returns
-returns c = 
+returns c =
     let a = c.args in
     rw (← five_written a.table.now a.at a.a a.b a.c a.d a.e (search rules))

@@ -13,7 +13,7 @@ loop-i-init c = (search rules, both_none _)
 
 pub loop-i-preserved : goal.loop-i-preserved
 unfolding at_end end_of cursor_of
-loop-i-preserved c = 
+loop-i-preserved c =
     let l = c.loop-i in
     let a = c.args in
     (search rules, every_turn (at_end a.dir.now a.cursors.now) l.i (1290 - l.i) l.ok _ l.invariant.1 (1290 - (l.i + 1)) (omega arith) (rw and_both))

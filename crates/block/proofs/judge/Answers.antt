@@ -18,7 +18,7 @@ returns-then-cursors-ne-SPANS c = left _ _ (not_table _ _ _ c.if-dir-ne-DIRECTOR
 
 pub returns : goal.returns
 unfolding verdict_of
-returns c = 
+returns c =
     let a = c.args in
     c.judge_spans.ensures
     ∙ ap (λ (b : Bool). verdict b (all_inside a.dir.now a.cursors.now))

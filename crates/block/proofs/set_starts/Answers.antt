@@ -10,13 +10,13 @@ use Rattle.block.proofs.Laws.{starts_turn, starts_done}
 use Rattle.block.proofs.set_starts.Goals as goal
 
 pub loop-i-init : goal.loop-i-init
-loop-i-init c = 
+loop-i-init c =
     let a = c.args in
     (search rules, (search rules, paste-zero a.cursors.now 0 (starts a.dir.now)))
 
 pub loop-i-preserved : goal.loop-i-preserved
 unfolding start_of
-loop-i-preserved c = 
+loop-i-preserved c =
     let l = c.loop-i in
     let a = c.args in (
       search rules,
@@ -28,7 +28,7 @@ loop-i-preserved c =
     )
 
 pub returns : goal.returns
-returns c = 
+returns c =
     let l = c.loop-i in
     let a = c.args in
     l.invariant.1.1 ∙ starts_done a.dir.now a.cursors.now l.i (search rules) (omega arith)

@@ -12,7 +12,7 @@ pub returns-then-cursors-ne-SPANS : goal.returns-then-cursors-ne-SPANS
 returns-then-cursors-ne-SPANS c = sym (not_table _ _ _ c.if-dir-ne-DIRECTORY.false c.if-cursors-ne-SPANS.true)
 
 pub returns : goal.returns
-returns c = 
+returns c =
     let a = c.args in
     c.spans_sound.ensures
     ∙ sound_reach _ (length a.bytes.now) a.dir.now (λ i. omega (arith, c.type_inv.dir i)) c.reach.ensures

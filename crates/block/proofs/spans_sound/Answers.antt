@@ -13,7 +13,7 @@ loop-i-init c = (search rules, both_none _)
 
 pub loop-i-preserved : goal.loop-i-preserved
 unfolding span_sound start_of end_of
-loop-i-preserved c = 
+loop-i-preserved c =
     let l = c.loop-i in
     let a = c.args in
     (search rules, every_turn (span_sound a.n a.dir.now) l.i (1290 - l.i) l.ok _ l.invariant.1 (1290 - (l.i + 1)) (omega arith) (simp (and_both, both_both)))

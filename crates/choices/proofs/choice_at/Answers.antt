@@ -12,7 +12,7 @@ unfolding choice_at
 returns-then-before-b c = left _ _ (le-ltb _ _ c.if-before-b.true) (ap Itself c.piece_at-t.ensures)
 
 pub lean-requires : goal.lean-requires
-lean-requires c = 
+lean-requires c =
     let a = c.args in record {
       within = rw c.piece_at-t.ensures (piece_within a.name.now a.p.0 a.a c.requires.a_in_bounds.0);
       within_2 = rw c.piece_at-u.ensures (piece_within a.before.now a.p.0 a.b c.if-before-b.false);
@@ -20,5 +20,5 @@ lean-requires c =
 
 pub returns : goal.returns
 unfolding choice_at
-returns c = 
+returns c =
     took _ _ (lt-ltb _ _ c.if-before-b.false) (rw (← c.piece_at-t.ensures, ← c.piece_at-u.ensures) c.lean.ensures)

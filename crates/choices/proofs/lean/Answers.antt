@@ -3,7 +3,7 @@ use Rattle.choices.specs.Choices.{lean}
 use Rattle.choices.proofs.lean.Goals as goal
 
 pub lean_string-requires : goal.lean_string-requires
-lean_string-requires c = 
+lean_string-requires c =
     let w = rw c.in-String.is at c.requires.within in record {
       a_le_e = w;
       within = c.requires.within_2;

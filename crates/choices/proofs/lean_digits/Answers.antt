@@ -13,7 +13,7 @@ returns-in-Char c = rw c.in-Char.is
 
 pub returns-in-Digits : goal.returns-in-Digits
 unfolding lean_digits
-returns-in-Digits c = 
+returns-in-Digits c =
     let n = c.args.n in
     rw c.in-Digits.is (c.by_rise.ensures ∙ ap (by_rise n) c.rise_of.ensures)
 

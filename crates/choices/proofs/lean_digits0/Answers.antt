@@ -8,7 +8,7 @@ use Rattle.choices.proofs.lean_digits0.Goals as goal
 
 pub returns-then-x-y : goal.returns-then-x-y
 unfolding lean_digits0
-returns-then-x-y c = 
+returns-then-x-y c =
     let x = c.args.x in
     let e : x.width ≡ c.in-Digits0.y.width = omega arith in
     rw c.in-Digits0.is (took _ _ (eq-eqb _ _ e) (c.by_rise0.ensures ∙ ap (by_rise0 x) c.rise_of.ensures))
@@ -27,5 +27,5 @@ returns-in-Digits c = rw c.in-Digits.is
 
 pub returns-else-x-y : goal.returns-else-x-y
 unfolding lean_digits0
-returns-else-x-y c = 
+returns-else-x-y c =
     rw c.in-Digits0.is (left _ _ (ne_eqb _ _ c.if-x-y.false) refl)

@@ -9,13 +9,13 @@ pub loop-i-init : goal.loop-i-init
 loop-i-init c = record { within = search rules; rest = refl }
 
 pub returns-else-is_allowed : goal.returns-else-is_allowed
-returns-else-is_allowed c = 
+returns-else-is_allowed c =
     let l = c.loop-i in
     let a = c.args in
     sym (barred_here a.bytes.now l.i a.to (omega arith) (omega arith) (sym c.is_allowed.ensures ∙ c.if-is_allowed.false)) ∙ l.invariant.rest
 
 pub loop-i-preserved : goal.loop-i-preserved
-loop-i-preserved c = 
+loop-i-preserved c =
     let l = c.loop-i in
     let a = c.args in
     record {
@@ -24,7 +24,7 @@ loop-i-preserved c =
     }
 
 pub returns : goal.returns
-returns c = 
+returns c =
     let l = c.loop-i in
     let a = c.args in
     sym (allowed_none a.bytes.now l.i a.to (omega arith)) ∙ l.invariant.rest

@@ -16,20 +16,20 @@ pub returns-then-n-eq0 : goal.returns-then-n-eq0
 returns-then-n-eq0 c = let a = c.args in sym (same_none a.a.now a.b.now 0 (omega arith) (omega arith))
 
 pub returns-then-a-n : goal.returns-then-a-n
-returns-then-a-n c = 
+returns-then-a-n c =
     let a = c.args in other_byte a.a.now a.b.now (length a.a.now - 1) (search rules)
 
 pub loop-i-init : goal.loop-i-init
 loop-i-init c = (rw both_none, search rules)
 
 pub loop-i-preserved : goal.loop-i-preserved
-loop-i-preserved c = 
+loop-i-preserved c =
     let l = c.loop-i in
     let a = c.args in
     (same_turn a.a.now a.b.now l.i l.equal l.invariant.0 (omega arith) (omega arith) (rw and_both), search rules)
 
 pub returns : goal.returns
-returns c = 
+returns c =
     let l = c.loop-i in
     let a = c.args in
     same_done a.a.now a.b.now l.i l.equal l.invariant.0 (omega arith) (omega arith)

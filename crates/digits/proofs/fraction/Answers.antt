@@ -58,6 +58,6 @@ pub returns-in-9 : goal.returns-in-9
 returns-in-9 c = let b = c.below-in-9.ensures in at_width 9 _ _ c.in-9.is (omega arith) (omega arith)
 
 pub returns-in_default : goal.returns-in_default
-returns-in_default c = 
+returns-in_default c =
     let ten : 10 ≤ c.args.w = past (past (past (past (past (past (past (past (past (past (omega arith) (search rules)) (search rules)) (search rules)) (search rules)) (search rules)) (search rules)) (search rules)) (search rules)) (search rules)) (search rules) in
     at_width 10 _ _ (omega arith) (omega arith) (ten_digits _ (search rules))

@@ -10,11 +10,11 @@ pub fraction-f-requires : goal.fraction-f-requires
 fraction-f-requires c = omega (arith, c.count-w.ensures, count_ten c.args.n (search rules))
 
 pub put_digits-requires : goal.put_digits-requires
-put_digits-requires c = 
+put_digits-requires c =
     (c.fraction-f.ensures.0, omega (arith, c.count-w.ensures, length_printed c.args.n))
 
 pub returns : goal.returns
-returns c = 
+returns c =
     let a = c.args in
     let w = c.count-w.result in (
       c.count-w.ensures ∙ sym (length_printed a.n),

@@ -15,7 +15,7 @@ pub loop-left-init : goal.loop-left-init
 loop-left-init c = record { within = refl; parts = search rules; size = refl; others = refl }
 
 pub loop-left-preserved : goal.loop-left-preserved
-loop-left-preserved c = 
+loop-left-preserved c =
     let l = c.loop-left in
     let d = c.lead-d.ensures in
     record {

@@ -12,7 +12,7 @@ use Rattle.digits.proofs.Steps.{digit_first, digits_done}
 use Rattle.digits.proofs.put_wide.Goals as goal
 
 pub loop-place-init : goal.loop-place-init
-loop-place-init c = 
+loop-place-init c =
     let a = c.args in
     let z : a.at + a.w - a.at ≡ a.w = omega arith in
     record {
@@ -30,7 +30,7 @@ pub lead-d-requires : goal.lead-d-requires
 lead-d-requires c = c.begun-f.ensures.parts
 
 pub loop-place-preserved : goal.loop-place-preserved
-loop-place-preserved c = 
+loop-place-preserved c =
     let l = c.loop-place in
     let a = c.args in
     let f = c.begun-f in

@@ -5,7 +5,7 @@ use native.Mathlib.Omega.{arith}
 use Rattle.distances.proofs.dup_fits.Goals as goal
 
 pub returns-then-d-ge1 : goal.returns-then-d-ge1
-returns-then-d-ge1 c = 
+returns-then-d-ge1 c =
     took _ _ (le-leb 1 c.args.d.0 (omega (arith, c.if-d-ge1.true))) refl
 
 pub returns-else-d-ge1 : goal.returns-else-d-ge1

@@ -5,14 +5,14 @@ use Rattle.tables.specs.Tables.{in_rows}
 use Rattle.dupdiff.proofs.dup.Goals as goal
 
 pub fits_back-requires : goal.fits_back-requires
-fits_back-requires c = 
+fits_back-requires c =
     let a = c.args in record {
       entry_size_in_bounds = back_asks a.state a.text.now a.entries.now (in_rows a.rows.now) _ c.requires.counted (omega (arith, c.requires.le_distance));
       back_value = back_known a.state a.text.now a.entries.now (in_rows a.rows.now) _ c.requires.counted (omega (arith, c.requires.le_distance)) c.requires.known;
     }
 
 pub copied-requires : goal.copied-requires
-copied-requires c = 
+copied-requires c =
     let a = c.args in record {
       counted = c.requires.counted;
       text_inside = back_text a.state a.text.now a.entries.now (in_rows a.rows.now) _ c.requires.counted (omega (arith, c.requires.le_distance)) (back_fits a.state a.text.now a.entries.now (in_rows a.rows.now) _ c.requires.counted (omega (arith, c.requires.le_distance)) c.fits_back.ensures c.if-fits_back.true) c.entry_at-e.ensures;
@@ -20,11 +20,11 @@ copied-requires c =
     }
 
 pub returns-then-fits_back : goal.returns-then-fits_back
-returns-then-fits_back c = 
+returns-then-fits_back c =
     let a = c.args in
     λ rules bytes dir. dup_fit rules bytes dir a.cursors.now a.text.now a.entries.now (in_rows a.rows.now) a.state a.distance.0 (back_fits a.state a.text.now a.entries.now (in_rows a.rows.now) _ c.requires.counted (omega (arith, c.requires.le_distance)) c.fits_back.ensures c.if-fits_back.true) c.entry_at-e.ensures (c.copied.ensures rules bytes dir) (omega arith)
 
 pub returns-else-fits_back : goal.returns-else-fits_back
-returns-else-fits_back c = 
+returns-else-fits_back c =
     let a = c.args in
     λ rules bytes dir. dup_unfit rules bytes dir a.cursors.now a.text.now a.entries.now (in_rows a.rows.now) a.state a.distance.0 (back_fits a.state a.text.now a.entries.now (in_rows a.rows.now) _ c.requires.counted (omega (arith, c.requires.le_distance)) c.fits_back.ensures c.if-fits_back.false) c.refuse.ensures (omega arith)

@@ -4,7 +4,7 @@ use borrow.Author.Rules.{rules}
 use Rattle.entries.proofs.enter.Goals as goal
 
 pub returns : goal.returns
-returns c = 
+returns c =
     let a = c.args in record {
       value = entered a.state a.bytes a.added (omega arith) (omega arith) (omega arith) (omega arith);
       entries_value = rw c.put_entry.ensures;

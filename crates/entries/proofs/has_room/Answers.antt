@@ -10,20 +10,20 @@ use borrow.Author.Rules.{rules}
 use Rattle.entries.proofs.has_room.Goals as goal
 
 pub returns-then-text-state : goal.returns-then-text-state
-returns-then-text-state c = 
+returns-then-text-state c =
     let a = c.args in
     left _ _ (lt-leb (a.state.text + a.bytes + 1) (length a.text.now) (omega (arith, c.if-text-state.true))) refl
 
 pub returns-then-entries-state : goal.returns-then-entries-state
 unfolding room
-returns-then-entries-state c = 
+returns-then-entries-state c =
     let a = c.args in
     took _ _ (le-leb (a.state.text + a.bytes + 1) (length a.text.now) (omega (arith, c.if-text-state.false)))
     (left _ _ (lt-leb (a.state.names + 1) (room entry_size a.entries.now) (omega (arith, c.if-entries-state.true))) refl)
 
 pub returns : goal.returns
 unfolding room
-returns c = 
+returns c =
     let a = c.args in
     took _ _ (le-leb (a.state.text + a.bytes + 1) (length a.text.now) (omega (arith, c.if-text-state.false)))
     (took _ _ (le-leb (a.state.names + 1) (room entry_size a.entries.now) (omega (arith, c.if-entries-state.false))) (room_test a.rows.now (a.state.rows + a.added)))

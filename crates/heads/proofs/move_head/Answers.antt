@@ -5,11 +5,11 @@ use Rattle.heads.proofs.move_head.Goals as goal
 
 -- the cursors stand behind this name's bytes
 pub returns : goal.returns
-returns c = 
+returns c =
     head_moved _ _ c.move_on.ensures c.move_on-2.ensures (omega arith) (omega arith)
 
 pub move_on-requires-2 : goal.move_on-requires-2
-move_on-requires-2 c = 
+move_on-requires-2 c =
     let p = c.requires in
     let k = head_kept _ _ _ _ c.move_on.ensures p.cursors_len.1.0 p.cursors_len.1.1 in record {
       cursors_len = (search rules, (search rules, search rules));

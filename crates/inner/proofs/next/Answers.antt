@@ -9,12 +9,12 @@ use Rattle.tables.specs.Tables.{in_rows}
 use Rattle.inner.proofs.next.Goals as goal
 
 pub returns-then-k-state : goal.returns-then-k-state
-returns-then-k-state c = 
+returns-then-k-state c =
     let a = c.args in
-    next_finished (rules_of a.set) a.bytes.now a.dir.now a.cursors.now a.text.now a.entries.now (in_rows a.rows.now) a.state c.?After-struct_known.if1.true c.finish.ensures
+    next_finished (rules_of a.set) a.bytes.now a.dir.now a.cursors.now a.text.now a.entries.now (in_rows a.rows.now) a.state c.if-k-state.true c.finish.ensures
 
 pub dup-requires : goal.dup-requires
-dup-requires c = 
+dup-requires c =
     let a = c.args in
     let t = dup_told (source (rules_of a.set) a.bytes.now a.dir.now a.cursors.now) a.state.names _ (sym c.head.ensures ∙ c.in-Dup.is) in record {
       counted = c.requires.counted;
@@ -24,7 +24,7 @@ dup-requires c =
     }
 
 pub diff-requires : goal.diff-requires
-diff-requires c = 
+diff-requires c =
     let a = c.args in record {
       fact = c.requires.fact;
       counted = c.requires.counted;
@@ -33,16 +33,16 @@ diff-requires c =
     }
 
 pub returns-in-Dup : goal.returns-in-Dup
-returns-in-Dup c = 
+returns-in-Dup c =
     let a = c.args in
     next_dup (rules_of a.set) a.bytes.now a.dir.now a.cursors.now a.text.now a.entries.now (in_rows a.rows.now) a.state c.if-k-state.false _ c.head.ensures c.in-Dup.is (c.dup.ensures (rules_of a.set) a.bytes.now a.dir.now)
 
 pub returns-in-Diff : goal.returns-in-Diff
-returns-in-Diff c = 
+returns-in-Diff c =
     let a = c.args in
     next_diff (rules_of a.set) a.bytes.now a.dir.now a.cursors.now a.text.now a.entries.now (in_rows a.rows.now) a.state c.if-k-state.false _ c.head.ensures c.in-Diff.is c.diff.ensures
 
 pub returns-in-Refused : goal.returns-in-Refused
-returns-in-Refused c = 
+returns-in-Refused c =
     let a = c.args in
     next_refused (rules_of a.set) a.bytes.now a.dir.now a.cursors.now a.text.now a.entries.now (in_rows a.rows.now) a.state c.if-k-state.false _ c.head.ensures c.in-Refused.is c.refuse.ensures

@@ -11,16 +11,16 @@ use Rattle.inputs.proofs.Laws.{not_last, allowed_no_ten}
 use Rattle.inputs.proofs.allowed_end.Goals as goal
 
 pub loop-i-init : goal.loop-i-init
-loop-i-init c = 
+loop-i-init c =
     let a = c.args in
     (search rules, (search rules, allowed_none a.input.now a.at a.at (omega arith)))
 
 pub allowed_in-requires : goal.allowed_in-requires
-allowed_in-requires c = 
+allowed_in-requires c =
     c.requires.table_value
 
 pub loop-i-preserved : goal.loop-i-preserved
-loop-i-preserved c = 
+loop-i-preserved c =
     let a = c.args in
     let s = c.args.input.now in
     let l = c.loop-i in
@@ -33,7 +33,7 @@ loop-i-preserved c =
     )
 
 pub returns : goal.returns
-returns c = 
+returns c =
     let l = c.loop-i in
     record {
       low = l.invariant.0;

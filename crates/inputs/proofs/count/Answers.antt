@@ -16,6 +16,6 @@ pub loop-i-preserved : goal.loop-i-preserved
 loop-i-preserved c = (omega arith, (omega arith, omega arith))
 
 pub returns : goal.returns
-returns c = 
+returns c =
     let s = c.args.input.now in
     omega (arith, ap length (names_out s [] (length s) (omega arith)))

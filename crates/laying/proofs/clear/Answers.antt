@@ -13,7 +13,7 @@ pub loop-i-init : goal.loop-i-init
 loop-i-init c = (search rules, (refl, fill_none _ 0))
 
 pub loop-i-preserved : goal.loop-i-preserved
-loop-i-preserved c = 
+loop-i-preserved c =
     let l = c.loop-i in
     let d = c.args.directory.now in
     (omega arith, (simp length-set l.invariant.1.0, ap (λ (x : List ℕ). set x l.i 0) l.invariant.1.1 ∙ fill_more l.i 0 d (omega arith)))
@@ -22,7 +22,7 @@ pub shape_of-directory : goal.shape_of-directory
 shape_of-directory c = c.loop-i.invariant.1.0
 
 pub returns : goal.returns
-returns c = 
+returns c =
     let l = c.loop-i in
     let d = c.args.directory.now in
     let e : l.i ≡ 2580 = omega arith in

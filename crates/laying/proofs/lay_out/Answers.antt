@@ -17,7 +17,7 @@ pub bounds-directory-i-in-loop-i-2 : goal.bounds-directory-i-in-loop-i-2
 bounds-directory-i-in-loop-i-2 c = simp length-set (omega arith)
 
 pub overflow_add-at : goal.overflow_add-at
-overflow_add-at c = 
+overflow_add-at c =
     let l = c.loop-i in
     let d = c.args.directory.now in
     let n : l.i + 1 + (1290 - (l.i + 1)) ≡ 1290 = omega arith in
@@ -25,7 +25,7 @@ overflow_add-at c =
     omega (arith, r, offset_more d l.i, offset_grows d (1290 - (l.i + 1)) (l.i + 1), ap (offset_in d) n)
 
 pub loop-i-preserved : goal.loop-i-preserved
-loop-i-preserved c = 
+loop-i-preserved c =
     let l = c.loop-i in
     let d = c.args.directory.now in
     let r : get_or l.directory (2 * l.i + 1) 0 ≡ end_of d l.i = ap (λ (x : List ℕ). get_or x (2 * l.i + 1) 0) l.invariant.1.1.1 ∙ laid_read d l.i (omega arith) in (
@@ -43,7 +43,7 @@ pub shape_of-directory : goal.shape_of-directory
 shape_of-directory c = c.loop-i.invariant.1.0
 
 pub returns : goal.returns
-returns c = 
+returns c =
     let l = c.loop-i in
     let d = c.args.directory.now in
     let e : l.i ≡ 1290 = omega arith in

@@ -7,7 +7,7 @@ use Rattle.laying.specs.Passes.{step_of}
 use Rattle.laying.proofs.put_byte.Goals as goal
 
 pub overflow_cast-at : goal.overflow_cast-at
-overflow_cast-at c = 
+overflow_cast-at c =
     omega (arith, c.type_inv.directory (2 * c.args.span.0 + 1))
 
 pub write_byte-requires : goal.write_byte-requires

@@ -7,7 +7,7 @@ use Rattle.laying.proofs.Writes.{text_written}
 use Rattle.laying.proofs.text_at.Goals as goal
 
 pub returns : goal.returns
-returns c = 
+returns c =
     let a = c.args in
     c.put_byte.ensures
     ∙ ap (λ (l : List ℕ). written l (a.at + (a.to - a.from)) (0 ∷ [])) c.copy_at.ensures

@@ -10,13 +10,13 @@ use Rattle.lines.proofs.put_diff.Goals as goal
 
 pub put_labelled-next-requires : goal.put_labelled-next-requires
 unfolding diff_word
-put_labelled-next-requires c = 
+put_labelled-next-requires c =
     let a = c.args in
     first_room (diff_word ++ printed a.distance.0) (tokens_text a.name.now (choices_of a.before.now a.name.now)) (page a.out.now a.at) c.requires.has_room
 
 pub put_tokens-requires : goal.put_tokens-requires
 unfolding diff_word
-put_tokens-requires c = 
+put_tokens-requires c =
     let a = c.args in record {
       table_value = c.requires.table_value;
       has_room = next_room (diff_word ++ printed a.distance.0) (tokens_text a.name.now (choices_of a.before.now a.name.now)) (page a.out.now a.at) c.requires.has_room c.put_labelled-next.ensures;
@@ -24,6 +24,6 @@ put_tokens-requires c =
 
 pub returns : goal.returns
 unfolding diff_word
-returns c = 
+returns c =
     let a = c.args in
     said_next (diff_word ++ printed a.distance.0) (tokens_text a.name.now (choices_of a.before.now a.name.now)) (page a.out.now a.at) c.requires.has_room c.put_labelled-next.ensures c.put_tokens.ensures

@@ -10,24 +10,24 @@ use mathlib.Core.Path.{◌≡◌, refl, ◌∙◌}
 use Rattle.lines.proofs.put_lines.Goals as goal
 
 pub loop-start-init : goal.loop-start-init
-loop-start-init c = 
+loop-start-init c =
     let a = c.args in
     (refl, names_start a.input.now (page a.out.now 0) (omega arith) c.requires.has_room)
 
 pub name_end-end-requires : goal.name_end-end-requires
-name_end-end-requires c = 
+name_end-end-requires c =
     (c.loop-start-test.true, c.requires.input_value.0)
 
 pub slice_bounds-put_line-count : goal.slice_bounds-put_line-count
-slice_bounds-put_line-count c = 
+slice_bounds-put_line-count c =
     c.loop-start.invariant.1.stands.low
 
 pub slice_bounds-put_line-start : goal.slice_bounds-put_line-start
-slice_bounds-put_line-start c = 
+slice_bounds-put_line-start c =
     c.loop-start.invariant.1.stands.low
 
 pub slice_bounds-put_line-end : goal.slice_bounds-put_line-end
-slice_bounds-put_line-end c = 
+slice_bounds-put_line-end c =
     c.loop-start.invariant.1.stands.high
 
 pub slice_bounds-put_line-count-in-loop-start : goal.slice_bounds-put_line-count-in-loop-start
@@ -41,7 +41,7 @@ slice_bounds-put_line-end-in-loop-start c = le_of_lt c.name_end-end.ensures.high
 
 pub put_line-at-requires : goal.put_line-at-requires
 unfolding part
-put_line-at-requires c = 
+put_line-at-requires c =
     let l = c.loop-start in
     let a = c.args in record {
       table_value = c.requires.table_value;
@@ -49,26 +49,26 @@ put_line-at-requires c =
     }
 
 pub overflow_add-start : goal.overflow_add-start
-overflow_add-start c = 
+overflow_add-start c =
     let a = c.args in
     let h : c.name_end-end.result < length a.input.now = c.name_end-end.ensures.high in
     omega arith
 
 pub overflow_add-n : goal.overflow_add-n
-overflow_add-n c = 
+overflow_add-n c =
     let l = c.loop-start in
     let a = c.args in
     let h = names_count a.input.now l.n l.from l.to l.start l.invariant.1.stands _ c.name_end-end.ensures in
     omega (arith, c.requires.input_value.1)
 
 pub loop-start-smaller : goal.loop-start-smaller
-loop-start-smaller c = 
+loop-start-smaller c =
     let e = c.name_end-end.ensures in
     omega (arith, e.low, e.high)
 
 pub loop-start-preserved : goal.loop-start-preserved
 unfolding part
-loop-start-preserved c = 
+loop-start-preserved c =
     let l = c.loop-start in
     let a = c.args in
     (c.put_line-at.auto.out ∙ l.invariant.0, names_more a.input.now (page a.out.now 0) (page l.new l.at) l.n l.from l.to l.start l.invariant.1 _ c.name_end-end.ensures c.put_line-at.ensures)
@@ -77,7 +77,7 @@ pub shape_of-out : goal.shape_of-out
 shape_of-out c = c.loop-start.invariant.0
 
 pub returns : goal.returns
-returns c = 
+returns c =
     let l = c.loop-start in
     let a = c.args in
     names_end a.input.now (page a.out.now 0) (page l.new l.at) l.n l.from l.to l.start l.invariant.1 c.loop-start-test.false

@@ -12,13 +12,13 @@ use Rattle.lines.proofs.put_name.Goals as goal
 
 pub put_labelled-requires : goal.put_labelled-requires
 unfolding dup_word
-put_labelled-requires c = 
+put_labelled-requires c =
     let a = c.args in
     let e = sym c.reference_of.ensures ∙ c.in-Dup.is in
     subst (λ (l : List ℕ). HasRoom l (page a.out.now a.at)) (dup_text a.n a.before.now a.name.now _ e) c.requires.has_room
 
 pub put_diff-requires : goal.put_diff-requires
-put_diff-requires c = 
+put_diff-requires c =
     let a = c.args in
     let e = sym c.reference_of.ensures ∙ c.in-Diff.is in
     let d = c.in-Diff.d.0 in record {
@@ -28,13 +28,13 @@ put_diff-requires c =
 
 pub returns-in-Dup : goal.returns-in-Dup
 unfolding dup_word
-returns-in-Dup c = 
+returns-in-Dup c =
     let a = c.args in
     let e = sym c.reference_of.ensures ∙ c.in-Dup.is in
     c.put_labelled.ensures ∙ ap (λ (l : List ℕ). said l (page a.out.now a.at)) (sym (dup_text a.n a.before.now a.name.now _ e))
 
 pub returns-in-Diff : goal.returns-in-Diff
-returns-in-Diff c = 
+returns-in-Diff c =
     let a = c.args in
     let e = sym c.reference_of.ensures ∙ c.in-Diff.is in
     let d = c.in-Diff.d.0 in

@@ -7,12 +7,12 @@ use borrow.Author.Rules.{rules}
 use Rattle.listed.proofs.list.Goals as goal
 
 pub put_listed-requires : goal.put_listed-requires
-put_listed-requires c = 
+put_listed-requires c =
     let a = c.args in
     omega (arith, listed_short a.input.now)
 
 pub returns : goal.returns
-returns c = 
+returns c =
     let a = c.args in
     let w = page a.out.now 0 in
     let e = c.put_listed.ensures in

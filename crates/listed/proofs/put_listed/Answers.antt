@@ -7,40 +7,40 @@ use borrow.Author.Rules.{rules}
 use Rattle.listed.proofs.put_listed.Goals as goal
 
 pub put_refusal-requires : goal.put_refusal-requires
-put_refusal-requires c = 
+put_refusal-requires c =
     let a = c.args in
     same_room (listed_long a.input.now c.if-input-gt-MOST.true) (page a.out.now 0) c.requires
 
 pub returns-then-input-gt-MOST : goal.returns-then-input-gt-MOST
-returns-then-input-gt-MOST c = 
+returns-then-input-gt-MOST c =
     let a = c.args in
     same_said (listed_long a.input.now c.if-input-gt-MOST.true) (page a.out.now 0) c.put_refusal.ensures
 
 pub put_refusal-requires-then-not-all_ended : goal.put_refusal-requires-then-not-all_ended
-put_refusal-requires-then-not-all_ended c = 
+put_refusal-requires-then-not-all_ended c =
     let a = c.args in
     same_room (listed_unended a.input.now c.if-input-gt-MOST.false (sym c.all_ended.ensures ∙ not-true _ c.if-not-all_ended.true-raw)) (page a.out.now 0) c.requires
 
 pub returns-then-not-all_ended : goal.returns-then-not-all_ended
-returns-then-not-all_ended c = 
+returns-then-not-all_ended c =
     let a = c.args in
     same_said (listed_unended a.input.now c.if-input-gt-MOST.false (sym c.all_ended.ensures ∙ not-true _ c.if-not-all_ended.true-raw)) (page a.out.now 0) c.put_refusal-then-not-all_ended.ensures
 
 pub judge-requires : goal.judge-requires
-judge-requires c = 
+judge-requires c =
     let a = c.args in record {
       table_value = c.table-table.ensures;
       input_value = (sym c.all_ended.ensures ∙ not-false _ c.if-not-all_ended.false-raw, few_names a.input.now c.if-input-gt-MOST.false);
     }
 
 pub put_refusal-requires-in-Bad : goal.put_refusal-requires-in-Bad
-put_refusal-requires-in-Bad c = 
+put_refusal-requires-in-Bad c =
     let a = c.args in
     let e = sym c.all_ended.ensures ∙ not-false _ c.if-not-all_ended.false-raw in
     same_room (listed_bad a.input.now c.if-input-gt-MOST.false e (sym c.judge.ensures ∙ c.in-Bad.is)) (page a.out.now 0) c.requires
 
 pub put_listing-requires : goal.put_listing-requires
-put_listing-requires c = 
+put_listing-requires c =
     let a = c.args in
     let e = sym c.all_ended.ensures ∙ not-false _ c.if-not-all_ended.false-raw in record {
       table_value = c.table-table.ensures;
@@ -50,7 +50,7 @@ put_listing-requires c =
     }
 
 pub returns-in-Bad : goal.returns-in-Bad
-returns-in-Bad c = 
+returns-in-Bad c =
     let a = c.args in
     let e = sym c.all_ended.ensures ∙ not-false _ c.if-not-all_ended.false-raw in
     same_said (listed_bad a.input.now c.if-input-gt-MOST.false e (sym c.judge.ensures ∙ c.in-Bad.is)) (page a.out.now 0) c.put_refusal-in-Bad.ensures

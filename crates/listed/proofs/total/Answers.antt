@@ -6,7 +6,7 @@ use borrow.Author.Rules.{rules}
 use Rattle.listed.proofs.total.Goals as goal
 
 pub put_names-requires : goal.put_names-requires
-put_names-requires c = 
+put_names-requires c =
     let a = c.args in record {
       table_value = c.requires.table_value;
       input_value = (c.requires.good.ends, c.requires.good.few);
@@ -14,6 +14,6 @@ put_names-requires c =
     }
 
 pub returns : goal.returns
-returns c = 
+returns c =
     let a = c.args in
     total_is (rules_of draft_plain) a.input.now _ _ (ready a.input.now _ c.requires.good refl) c.put_names.ensures

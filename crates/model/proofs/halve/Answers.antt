@@ -10,26 +10,26 @@ use borrow.Author.Rules.{rules}
 use Rattle.model.proofs.halve.Goals as goal
 
 pub loop-i-init : goal.loop-i-init
-loop-i-init c = 
+loop-i-init c =
     let f = c.args.frequencies.now in
     (search rules, (search rules, (paste-zero f 0 (halves f), omega arith)))
 
 pub overflow_add-total : goal.overflow_add-total
-overflow_add-total c = 
+overflow_add-total c =
     let l = c.loop-i in
     let f = c.args.frequencies.now in
     let h : l.i < length f = omega arith in
     record { fits = omega (arith, halve_sum f l.frequencies l.i l.total l.invariant.1.1.0 h l.invariant.1.1.1, halves_least f) }
 
 pub loop-i-preserved : goal.loop-i-preserved
-loop-i-preserved c = 
+loop-i-preserved c =
     let l = c.loop-i in
     let f = c.args.frequencies.now in
     let h : l.i < length f = omega arith in
     (omega arith, (simp length-set l.invariant.1.0, (rw (halve_turn f l.frequencies l.i l.total l.invariant.1.1.0 h), halve_sum f l.frequencies l.i l.total l.invariant.1.1.0 h l.invariant.1.1.1)))
 
 pub returns : goal.returns
-returns c = 
+returns c =
     let l = c.loop-i in
     let f = c.args.frequencies.now in
     let e : l.i ≡ length f = omega arith in

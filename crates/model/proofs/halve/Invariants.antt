@@ -10,7 +10,7 @@ use borrow.Author.Rules.{rules}
 use Rattle.model.proofs.halve.Given as goal
 
 abbrev pub invariant-loop-i : goal.invariant-loop-i
-invariant-loop-i l = 
+invariant-loop-i l =
     (l.i ≤ length l.initial.frequencies)
     × ((length l.frequencies ≡ length l.initial.frequencies)
     × ((l.frequencies ≡ paste l.initial.frequencies 0 (halves l.initial.frequencies) l.i) × (l.total + sum (halves (drop l.i l.initial.frequencies)) ≡ sum (halves l.initial.frequencies))))

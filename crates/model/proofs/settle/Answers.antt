@@ -8,14 +8,14 @@ use Rattle.model.proofs.settle.Goals as goal
 
 pub returns-then-total-le-MOST : goal.returns-then-total-le-MOST
 unfolding settled
-returns-then-total-le-MOST c = 
+returns-then-total-le-MOST c =
     let a = c.args in
     let stays : a.total ≤ most = omega arith in
     λ s. let m = model s a.frequencies.now a.total in rw (pick_false (halved m) m (le-ltb most a.total stays))
 
 pub returns : goal.returns
 unfolding settled halved
-returns c = 
+returns c =
     let a = c.args in
     let e = c.halve.ensures in
     let goes : most < a.total = omega arith in

@@ -12,14 +12,14 @@ use borrow.Author.Rules.{rules}
 use Rattle.model.proofs.start.Goals as goal
 
 pub loop-i-init : goal.loop-i-init
-loop-i-init c = 
+loop-i-init c =
     let a = c.args in
     let s = c.args.symbols.now in
     let f = c.args.frequencies.now in
     (search rules, (search rules, (search rules, (paste-zero s 0 (numbers 0 (length s)), paste-zero f 0 (replicate (length s) 1)))))
 
 pub loop-i-preserved : goal.loop-i-preserved
-loop-i-preserved c = 
+loop-i-preserved c =
     let l = c.loop-i in
     let a = c.args in
     let s = c.args.symbols.now in
@@ -41,7 +41,7 @@ loop-i-preserved c =
 
 pub returns : goal.returns
 unfolding started
-returns c = 
+returns c =
     let l = c.loop-i in
     let a = c.args in
     let s = c.args.symbols.now in

@@ -12,7 +12,7 @@ use borrow.Author.Rules.{rules}
 use Rattle.model.proofs.start.Given as goal
 
 abbrev pub invariant-loop-i : goal.invariant-loop-i
-invariant-loop-i l = 
+invariant-loop-i l =
     (l.i ≤ length l.initial.symbols)
     × ((length l.symbols ≡ length l.initial.symbols)
     × ((length l.frequencies ≡ length l.initial.symbols)

@@ -8,15 +8,14 @@ use Rattle.modelcalls.proofs.replay.Goals as goal
 
 pub returns-in-Whole : goal.returns-in-Whole
 unfolding replayed_number
-returns-in-Whole c = 
+returns-in-Whole c =
     let a = c.args in
     let r = c.replay in
-    let l = c.replay.new.1.1 in
     -- each table goes on as itself
     let e : replaying r.result (model c.replay.new.symbols c.replay.new.frequencies c.replay.new.total) ≡ replay_of a.size a.trace.now (model a.symbols.now a.frequencies.now a.total.now) = rw r.ensures in
     replayed_call _ _ _ r.result _ e (rw (c.pack.ensures, c.in-Whole.is))
 
 pub returns-in-Refused : goal.returns-in-Refused
 unfolding replayed_number
-returns-in-Refused c = 
+returns-in-Refused c =
     replayed_call _ _ _ c.replay.result _ c.replay.ensures (rw (c.refused.ensures, c.in-Refused.is))

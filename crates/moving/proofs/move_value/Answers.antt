@@ -5,9 +5,9 @@ use Rattle.moving.proofs.move_value.Goals as goal
 
 pub move_padded-requires : goal.move_padded-requires
 move_padded-requires c = record {
-      cursors_len = c.requires.cursors_len;
-      dzlen_stream_bound = c.requires.movable c.in-Digits0.is;
-    }
+  cursors_len = c.requires.cursors_len;
+  dzlen_stream_bound = c.requires.movable c.in-Digits0.is;
+}
 
 pub returns-in-String : goal.returns-in-String
 unfolding value_past

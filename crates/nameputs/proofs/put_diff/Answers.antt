@@ -11,20 +11,20 @@ use Rattle.nameputs.specs.NamePuts.{head_puts}
 use Rattle.nameputs.proofs.put_diff.Goals as goal
 
 pub put_head-next-requires : goal.put_head-next-requires
-put_head-next-requires c = 
+put_head-next-requires c =
     let a = c.args in record {
       stream_bound = omega arith;
       roomy = rw c.diff_number-number.ensures (roomy_append a.pass (head_puts (numbers_of a.set.kind).diff diff_stream a.distance.0) (token_puts (rules_of a.set) a.name.now 1 (choices_of a.before.now a.name.now)) (world a.total a.directory.now a.bytes.now) c.requires.roomy).0;
     }
 
 pub put_tokens-requires : goal.put_tokens-requires
-put_tokens-requires c = 
+put_tokens-requires c =
     let a = c.args in record {
       table_value = c.requires.table_value;
       roomy = subst (λ (w : World). Roomy a.pass (token_puts (rules_of a.set) a.name.now 1 (choices_of a.before.now a.name.now)) w) (sym (rw c.diff_number-number.ensures at c.put_head-next.ensures)) (roomy_append a.pass (head_puts (numbers_of a.set.kind).diff diff_stream a.distance.0) (token_puts (rules_of a.set) a.name.now 1 (choices_of a.before.now a.name.now)) (world a.total a.directory.now a.bytes.now) c.requires.roomy).1;
     }
 
 pub returns : goal.returns
-returns c = 
+returns c =
     let a = c.args in
     c.put_tokens.ensures ∙ ap (run_of a.pass (token_puts (rules_of a.set) a.name.now 1 (choices_of a.before.now a.name.now))) (rw c.diff_number-number.ensures at c.put_head-next.ensures) ∙ sym (run_append a.pass (head_puts (numbers_of a.set.kind).diff diff_stream a.distance.0) (token_puts (rules_of a.set) a.name.now 1 (choices_of a.before.now a.name.now)) (world a.total a.directory.now a.bytes.now))

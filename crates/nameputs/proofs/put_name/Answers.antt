@@ -14,7 +14,7 @@ use Rattle.nameputs.proofs.Laws.{dup_puts, diff_puts_law}
 use Rattle.nameputs.proofs.put_name.Goals as goal
 
 pub put_head-requires : goal.put_head-requires
-put_head-requires c = 
+put_head-requires c =
     let a = c.args in
     let e = sym c.reference_of.ensures ∙ c.in-Dup.is in record {
       stream_bound = omega arith;
@@ -22,7 +22,7 @@ put_head-requires c =
     }
 
 pub put_diff-requires : goal.put_diff-requires
-put_diff-requires c = 
+put_diff-requires c =
     let a = c.args in
     let e = sym c.reference_of.ensures ∙ c.in-Diff.is in
     let d = c.in-Diff.d.0 in record {
@@ -32,13 +32,13 @@ put_diff-requires c =
     }
 
 pub returns-in-Dup : goal.returns-in-Dup
-returns-in-Dup c = 
+returns-in-Dup c =
     let a = c.args in
     let e = sym c.reference_of.ensures ∙ c.in-Dup.is in
     rw c.dup_number-number.ensures at c.put_head.ensures ∙ ap (λ (l : List Put). run_of a.pass l (world a.total a.directory.now a.bytes.now)) (sym (dup_puts (rules_of a.set) a.n a.before.now a.name.now _ e))
 
 pub returns-in-Diff : goal.returns-in-Diff
-returns-in-Diff c = 
+returns-in-Diff c =
     let a = c.args in
     let e = sym c.reference_of.ensures ∙ c.in-Diff.is in
     let d = c.in-Diff.d.0 in

@@ -11,41 +11,41 @@ use Rattle.inputs.proofs.Standing.{names_count}
 use Rattle.nameputs.proofs.put_names.Goals as goal
 
 pub loop-start-init : goal.loop-start-init
-loop-start-init c = 
+loop-start-init c =
     let a = c.args in
     (refl, (refl, names_start a.pass a.input.now (world 0 a.directory.now a.bytes.now) c.requires.roomy))
 
 pub name_end-end-requires : goal.name_end-end-requires
-name_end-end-requires c = 
+name_end-end-requires c =
     (c.loop-start-test.true, c.requires.input_value.0)
 
 pub slice_bounds-put_name-count : goal.slice_bounds-put_name-count
-slice_bounds-put_name-count c = 
+slice_bounds-put_name-count c =
     c.loop-start.invariant.1.1.stands.low
 
 pub slice_bounds-put_name-start : goal.slice_bounds-put_name-start
-slice_bounds-put_name-start c = 
+slice_bounds-put_name-start c =
     c.loop-start.invariant.1.1.stands.low
 
 pub slice_bounds-put_name-end : goal.slice_bounds-put_name-end
-slice_bounds-put_name-end c = 
+slice_bounds-put_name-end c =
     c.loop-start.invariant.1.1.stands.high
 
 pub slice_bounds-put_name-count-in-loop-start : goal.slice_bounds-put_name-count-in-loop-start
-slice_bounds-put_name-count-in-loop-start c = 
+slice_bounds-put_name-count-in-loop-start c =
     c.name_end-end.ensures.low
 
 pub slice_bounds-put_name-start-in-loop-start : goal.slice_bounds-put_name-start-in-loop-start
-slice_bounds-put_name-start-in-loop-start c = 
+slice_bounds-put_name-start-in-loop-start c =
     c.name_end-end.ensures.low
 
 pub slice_bounds-put_name-end-in-loop-start : goal.slice_bounds-put_name-end-in-loop-start
-slice_bounds-put_name-end-in-loop-start c = 
+slice_bounds-put_name-end-in-loop-start c =
     le_of_lt c.name_end-end.ensures.high
 
 pub put_name-total-requires : goal.put_name-total-requires
 unfolding part
-put_name-total-requires c = 
+put_name-total-requires c =
     let l = c.loop-start in
     let a = c.args in record {
       table_value = c.requires.table_value;
@@ -53,21 +53,21 @@ put_name-total-requires c =
     }
 
 pub overflow_add-start : goal.overflow_add-start
-overflow_add-start c = 
+overflow_add-start c =
     let l = c.loop-start in
     let a = c.args in
     let h : c.name_end-end.result < length a.input.now = c.name_end-end.ensures.high in
     omega arith
 
 pub overflow_add-n : goal.overflow_add-n
-overflow_add-n c = 
+overflow_add-n c =
     let l = c.loop-start in
     let a = c.args in
     let h = names_count a.input.now l.n l.from l.to l.start l.invariant.1.1.stands _ c.name_end-end.ensures in
     omega (arith, c.requires.input_value.1)
 
 pub loop-start-smaller : goal.loop-start-smaller
-loop-start-smaller c = 
+loop-start-smaller c =
     let l = c.loop-start in
     let a = c.args in
     let e = c.name_end-end.ensures in
@@ -75,7 +75,7 @@ loop-start-smaller c =
 
 pub loop-start-preserved : goal.loop-start-preserved
 unfolding part
-loop-start-preserved c = 
+loop-start-preserved c =
     let l = c.loop-start in
     let a = c.args in
     let k = c.put_name-total.auto in (
@@ -93,7 +93,7 @@ pub shape_of-bytes : goal.shape_of-bytes
 shape_of-bytes c = c.loop-start.invariant.1.0
 
 pub returns : goal.returns
-returns c = 
+returns c =
     let l = c.loop-start in
     let a = c.args in
     names_end a.pass a.input.now (world 0 a.directory.now a.bytes.now) (world l.total l.directory l.bytes) l.n l.from l.to l.start l.invariant.1.1 c.loop-start-test.false

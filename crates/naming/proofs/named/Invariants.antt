@@ -10,7 +10,7 @@ use borrow.Author.Rules.{rules}
 use Rattle.naming.proofs.named.Given as goal
 
 abbrev pub invariant-loop-r : goal.invariant-loop-r
-invariant-loop-r l = 
+invariant-loop-r l =
     Starts (rules_of l.set) l.bytes l.dir l.initial.cursors l.initial.text l.initial.entries (in_rows l.initial.rows) l.state l.distance.0 l.first l.count l.keeping l.cursors l.text l.entries (in_rows l.rows)
     × (length l.rows ≡ length l.initial.rows)
 

@@ -8,13 +8,13 @@ use borrow.Author.Rules.{rules}
 use Rattle.pages.proofs.put.Goals as goal
 
 pub put_part-requires : goal.put_part-requires
-put_part-requires c = 
+put_part-requires c =
     let a = c.args in record {
       from_le_to = (omega arith, omega arith);
       has_room = subst (λ (l : List ℕ). HasRoom l (page a.out.now a.at)) (sym (part_all a.text.now)) c.requires;
     }
 
 pub returns : goal.returns
-returns c = 
+returns c =
     let a = c.args in
     c.put_part.ensures ∙ ap (λ (l : List ℕ). said l (page a.out.now a.at)) (part_all a.text.now)

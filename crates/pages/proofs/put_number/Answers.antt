@@ -6,6 +6,6 @@ use borrow.Author.Rules.{rules}
 use Rattle.pages.proofs.put_number.Goals as goal
 
 pub returns : goal.returns
-returns c = 
+returns c =
     let a = c.args in
     said_by a.out.now a.at (printed a.n) c.print-w.ensures.1 (ap (λ (k : ℕ). a.at + k) c.print-w.ensures.0)

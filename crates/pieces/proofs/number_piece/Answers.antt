@@ -14,7 +14,7 @@ padded e f = rw (e, f)
 
 pub returns-then-name-at-eq48 : goal.returns-then-name-at-eq48
 unfolding number_piece
-returns-then-name-at-eq48 c = 
+returns-then-name-at-eq48 c =
     took _ _ (eq-eqb _ _ c.if-name-at-eq48.true) (padded {v = c.args.end - c.args.at} c.requires.1.1.1 (omega arith))
 
 pub returns : goal.returns

@@ -9,20 +9,20 @@ use Rattle.splitting.proofs.Cuts.{cut_end, cut_number}
 use Rattle.pieces.proofs.piece_at.Goals as goal
 
 pub text_piece-requires : goal.text_piece-requires
-text_piece-requires c = 
+text_piece-requires c =
     let a = c.args in
     let e = cut_end a.name.now a.p.0 a.at c.requires.at_in_bounds.1 in
     rw e (cut_range a.name.now a.at c.requires.at_in_bounds.0 a.p.0)
 
 pub returns-then-p-eq-LAST : goal.returns-then-p-eq-LAST
 unfolding piece_at
-returns-then-p-eq-LAST c = 
+returns-then-p-eq-LAST c =
     let a = c.args in
     let e = cut_end a.name.now a.p.0 a.at c.requires.at_in_bounds.1 ∙ cut_last a.name.now a.at c.requires.at_in_bounds.0 a.p.0 (omega (arith, c.if-p-eq-LAST.true)) in
     took _ _ (eq-eqb _ _ c.if-p-eq-LAST.true) (c.text_piece.ensures ∙ ap (text_piece a.name.now a.at) e)
 
 pub number_piece-requires : goal.number_piece-requires
-number_piece-requires c = 
+number_piece-requires c =
     let a = c.args in
     let k = sym c.class_in.ensures ∙ c.if-class_in-eq-DIGIT.true in
     let r = cut_range a.name.now a.at c.requires.at_in_bounds.0 a.p.0 in
@@ -34,7 +34,7 @@ number_piece-requires c =
 
 pub returns-then-class_in-eq-DIGIT : goal.returns-then-class_in-eq-DIGIT
 unfolding piece_at
-returns-then-class_in-eq-DIGIT c = 
+returns-then-class_in-eq-DIGIT c =
     let a = c.args in
     let e = cut_end a.name.now a.p.0 a.at c.requires.at_in_bounds.1 ∙ cut_run a.name.now a.at c.requires.at_in_bounds.0 a.p.0 c.if-p-eq-LAST.false in
     left _ _ (ne_eqb _ _ c.if-p-eq-LAST.false)
@@ -42,14 +42,14 @@ returns-then-class_in-eq-DIGIT c =
     (c.number_piece.ensures ∙ ap (number_piece a.name.now a.at) e))
 
 pub text_piece-requires-2 : goal.text_piece-requires-2
-text_piece-requires-2 c = 
+text_piece-requires-2 c =
     let a = c.args in
     let e = cut_end a.name.now a.p.0 a.at c.requires.at_in_bounds.1 in
     rw e (cut_range a.name.now a.at c.requires.at_in_bounds.0 a.p.0)
 
 pub returns : goal.returns
 unfolding piece_at
-returns c = 
+returns c =
     let a = c.args in
     let e = cut_end a.name.now a.p.0 a.at c.requires.at_in_bounds.1 ∙ cut_run a.name.now a.at c.requires.at_in_bounds.0 a.p.0 c.if-p-eq-LAST.false in
     left _ _ (ne_eqb _ _ c.if-p-eq-LAST.false)

@@ -4,7 +4,7 @@ use borrow.Author.Rules.{rules}
 use Rattle.readcalls.proofs.read_block.Goals as goal
 
 pub returns : goal.returns
-returns c = 
+returns c =
     let v =
     read_call_law _ _ _ _ _ c.read_block-r.result.state _ c.read_block-r.ensures c.answered.ensures c.state_out.ensures
     ∙ block_state _ _ _ _ _ _ _ _ _ c.state_in-given.ensures in

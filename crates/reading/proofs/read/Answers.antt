@@ -7,7 +7,7 @@ use Rattle.tables.specs.Tables.{in_rows}
 use Rattle.reading.proofs.read.Goals as goal
 
 pub reads-requires : goal.reads-requires
-reads-requires c = 
+reads-requires c =
     let a = c.args in
     let v = sym c.judge.ensures ∙ c.in-Inside.is in
     let q = read_judged (rules_of a.set) a.bytes.now a.dir.now a.cursors.now a.text.now a.entries.now (in_rows a.rows.now) a.state v (sym c.counts.ensures ∙ c.if-counts.true) in record {
@@ -17,23 +17,23 @@ reads-requires c =
     }
 
 pub returns-in-Unsound : goal.returns-in-Unsound
-returns-in-Unsound c = 
+returns-in-Unsound c =
     let a = c.args in
     read_unsound (rules_of a.set) a.bytes.now a.dir.now a.cursors.now a.text.now a.entries.now (in_rows a.rows.now) a.state (sym c.judge.ensures ∙ c.in-Unsound.is) c.refuse_plain.ensures
 
 pub returns-in-Outside : goal.returns-in-Outside
-returns-in-Outside c = 
+returns-in-Outside c =
     let a = c.args in
     read_outside (rules_of a.set) a.bytes.now a.dir.now a.cursors.now a.text.now a.entries.now (in_rows a.rows.now) a.state (sym c.judge.ensures ∙ c.in-Outside.is) c.refuse_plain-in-Outside.ensures
 
 pub returns-then-counts : goal.returns-then-counts
-returns-then-counts c = 
+returns-then-counts c =
     let a = c.args in
     let v = sym c.judge.ensures ∙ c.in-Inside.is in
     read_is (rules_of a.set) a.bytes.now a.dir.now a.cursors.now a.text.now a.entries.now (in_rows a.rows.now) a.state v (sym c.counts.ensures ∙ c.if-counts.true) (c.reads.ensures ∙ pick_false _ _ refl)
 
 pub returns-else-counts : goal.returns-else-counts
-returns-else-counts c = 
+returns-else-counts c =
     let a = c.args in
     let v = sym c.judge.ensures ∙ c.in-Inside.is in
     read_miscounted (rules_of a.set) a.bytes.now a.dir.now a.cursors.now a.text.now a.entries.now (in_rows a.rows.now) a.state v (sym c.counts.ensures ∙ c.if-counts.false) c.refuse_plain-else-counts.ensures

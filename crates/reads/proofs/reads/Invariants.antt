@@ -12,7 +12,7 @@ use mathlib.Core.Path.{◌≡◌, refl, sym, ◌∙◌}
 use Rattle.reads.proofs.reads.Given as goal
 
 abbrev pub invariant-loop-so_far : goal.invariant-loop-so_far
-invariant-loop-so_far l = 
+invariant-loop-so_far l =
     Reads (rules_of l.set) l.bytes l.dir l.whole
     (pick l.whole (reads_from (rules_of l.set) l.bytes l.dir (l.initial.so_far.count - l.initial.so_far.names + 1) (fresh l.initial.cursors (keeping l.initial.so_far l.initial.text l.initial.entries (in_rows l.initial.rows)))) (next_of (source (rules_of l.set) l.bytes l.dir l.initial.cursors) (keeping l.initial.so_far l.initial.text l.initial.entries (in_rows l.initial.rows))))
     l.cursors (keeping l.so_far l.text l.entries (in_rows l.rows))

@@ -6,7 +6,7 @@ use Rattle.references.proofs.leans_on.Goals as goal
 
 pub returns-then-is_anew : goal.returns-then-is_anew
 unfolding leans_on
-returns-then-is_anew c = took _ _ (sym c.?After-shared_slice_known.is-anew.ensures ∙ c.?After-is_anew.if1.true) refl
+returns-then-is_anew c = took _ _ (sym c.is_anew.ensures ∙ c.if-is_anew.true) refl
 
 pub returns : goal.returns
 unfolding leans_on

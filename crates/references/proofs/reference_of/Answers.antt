@@ -7,7 +7,7 @@ use Rattle.references.proofs.reference_of.Goals as goal
 
 pub returns-then-is_anew : goal.returns-then-is_anew
 unfolding reference_of
-returns-then-is_anew c = 
+returns-then-is_anew c =
     let a = c.args in
     let v : Diff (record { 0 = 0 }) ≡ reference_of a.n a.before.now a.name.now = took _ _ (sym c.is_anew.ensures ∙ c.if-is_anew.true) refl in
     rw (← v)

@@ -32,19 +32,19 @@ pub put_row-requires : goal.put_row-requires
 put_row-requires c = let r = room_is (search) in search rules
 
 pub overflow_add-start : goal.overflow_add-start
-overflow_add-start c = 
+overflow_add-start c =
     let l = c.loop-i in
     let e = ap (λ (x : Row). x.length) (row_is (goal.at.overflow_add-start c).At-loop-i (omega arith) c.row_in-r.ensures) in
     record { fits = omega (arith, c.requires.by_index_2 l.i (omega arith) (omega arith), l.invariant.1.1.1.1.1.0 (omega arith)) }
 
 pub overflow_add-k : goal.overflow_add-k
-overflow_add-k c = 
+overflow_add-k c =
     let rows = c.args.rows.now in
     let h = room_numbers rows (row_room (in_rows rows)) (omega arith) in
     search rules
 
 pub loop-i-preserved : goal.loop-i-preserved
-loop-i-preserved c = 
+loop-i-preserved c =
     let a = c.args in let l = c.loop-i in
     let x = c.row_in-r in
     let r = row_is (goal.at.loop-i-preserved c).At-loop-i (omega arith) x.ensures in
@@ -76,6 +76,6 @@ pub shape_of-rows : goal.shape_of-rows
 shape_of-rows c = c.loop-i.invariant.1.1.1.0
 
 pub returns : goal.returns
-returns c = 
+returns c =
     let a = c.args in let l = c.loop-i in
     sym (rows_over (in_rows a.rows.now) (in_rows l.rows) l.k l.i (a.to - l.i) l.start (omega arith)) ∙ l.invariant.1.1.1.1.1.1

@@ -9,6 +9,6 @@ pub returns-then-r-ne4 : goal.returns-then-r-ne4
 returns-then-r-ne4 c = λ rules text. delta0_other _ _ _ c.if-count-at.false c.row_here-r.ensures c.if-r-ne4.true
 
 pub returns : goal.returns
-returns c = 
+returns c =
     λ rules text.
     delta0_is _ _ _ c.if-count-at.false c.row_here-r.ensures c.if-r-ne4.false (c.byte_in-found.ensures rules) (rw c.delta0_step.ensures)

@@ -7,7 +7,7 @@ pub returns-then-count-at : goal.returns-then-count-at
 returns-then-count-at c = match_none _ _ _ c.if-count-at.true
 
 pub match_of-requires : goal.match_of-requires
-match_of-requires c = 
+match_of-requires c =
     rw c.row_here-r.ensures (c.requires.rows.each _ (omega arith) (omega arith))
 
 pub returns : goal.returns

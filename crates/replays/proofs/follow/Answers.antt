@@ -14,12 +14,12 @@ pub loop-i-init : goal.loop-i-init
 loop-i-init c = (search rules, (c.requires, refl))
 
 pub turn-run-requires : goal.turn-run-requires
-turn-run-requires c = 
+turn-run-requires c =
     let l = c.loop-i in
     by_length (length c.args.symbols.now) (model l.symbols l.frequencies l.total) l.invariant.1.0
 
 pub loop-i-preserved : goal.loop-i-preserved
-loop-i-preserved c = 
+loop-i-preserved c =
     let l = c.loop-i in
     let n = length c.args.symbols.now in
     let r = c.turn-run in
@@ -33,7 +33,7 @@ loop-i-preserved c =
     )
 
 pub returns-in-Refused : goal.returns-in-Refused
-returns-in-Refused c = 
+returns-in-Refused c =
     let l = c.loop-i in
     let r = c.turn-run in
     let m = model l.symbols l.frequencies l.total in
@@ -41,14 +41,14 @@ returns-in-Refused c =
     replay_stops m c.args.trace.now l.i (omega arith) r.result.answer t r.ensures _ c.in-Refused.is ∙ l.invariant.1.1
 
 pub shape_of-symbols : goal.shape_of-symbols
-shape_of-symbols c = 
+shape_of-symbols c =
     c.loop-i.invariant.1.0.table.placed
 
 pub shape_of-frequencies : goal.shape_of-frequencies
-shape_of-frequencies c = 
+shape_of-frequencies c =
     omega (arith, c.loop-i.invariant.1.0.table.paired, c.requires.table.paired)
 
 pub returns : goal.returns
-returns c = 
+returns c =
     let l = c.loop-i in
     replay_ends (model l.symbols l.frequencies l.total) c.args.trace.now l.i (omega arith) ∙ l.invariant.1.1

@@ -11,7 +11,7 @@ use borrow.Author.Rules.{rules}
 use Rattle.replays.proofs.follow.Given as goal
 
 abbrev pub invariant-loop-i : goal.invariant-loop-i
-invariant-loop-i l = 
+invariant-loop-i l =
     (l.i ≤ length l.trace)
     × (Sound (length l.initial.symbols) (model l.symbols l.frequencies l.total)
     × (replay_from (model l.symbols l.frequencies l.total) (drop l.i l.trace) ≡ replay_from (model l.initial.symbols l.initial.frequencies l.start) l.trace))

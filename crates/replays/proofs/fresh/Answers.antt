@@ -11,7 +11,7 @@ use borrow.Author.Rules.{rules}
 use Rattle.replays.proofs.fresh.Goals as goal
 
 pub follow-requires : goal.follow-requires
-follow-requires c = 
+follow-requires c =
     let n = length c.args.symbols.now in
     let e = c.start.ensures in
     let l = c.start.new in
@@ -19,7 +19,7 @@ follow-requires c =
     by_length n (model l.symbols l.frequencies n) g
 
 pub returns : goal.returns
-returns c = 
+returns c =
     let a = c.args in
     c.follow.ensures ∙ ap (λ (m : Model). replay_from m a.trace.now) {y = started (length a.symbols.now)} c.start.ensures
     ∙ sym (fresh_is (length a.symbols.now) a.trace.now)

@@ -6,11 +6,11 @@ use borrow.Author.Rules.{rules}
 use Rattle.replays.proofs.turn.Goals as goal
 
 pub returns-then-symbols-at : goal.returns-then-symbols-at
-returns-then-symbols-at c = 
+returns-then-symbols-at c =
     let a = c.args in
     rw (sym (turn_stops (model a.symbols.now a.frequencies.now a.total) a.symbol (omega (arith, c.place_of-at.ensures))))
 
 pub returns : goal.returns
-returns c = 
+returns c =
     let a = c.args in
     turn_steps (model a.symbols.now a.frequencies.now a.total) a.symbol c.place_of-at.result c.place_of-at.ensures (omega arith) _ c.step.ensures

@@ -11,7 +11,7 @@ pub slice_bounds-turn-end : goal.slice_bounds-turn-end
 slice_bounds-turn-end c = omega (arith, c.requires.0.sized)
 
 pub slice_bounds-turn-end-2 : goal.slice_bounds-turn-end-2
-slice_bounds-turn-end-2 c = 
+slice_bounds-turn-end-2 c =
     let a = c.args in
     sym (length-take-le a.size a.symbols.now (omega (arith, c.requires.0.sized)))
 
@@ -19,17 +19,17 @@ pub slice_bounds-turn-end-3 : goal.slice_bounds-turn-end-3
 slice_bounds-turn-end-3 c = omega (arith, c.requires.0.sized)
 
 pub slice_bounds-turn-end-4 : goal.slice_bounds-turn-end-4
-slice_bounds-turn-end-4 c = 
+slice_bounds-turn-end-4 c =
     let a = c.args in
     sym (length-take-le a.size a.frequencies.now (omega (arith, c.requires.0.sized)))
 
 pub turn-requires : goal.turn-requires
-turn-requires c = 
+turn-requires c =
     let a = c.args in
     first_sound a.size a.symbols.now a.frequencies.now a.total c.requires.0
 
 pub returns : goal.returns
-returns c = 
+returns c =
     let a = c.args in
     let r = c.turn in
     let s : length (take a.size a.symbols.now) ≡ a.size = length-take-le a.size a.symbols.now (omega (arith, c.requires.0.sized)) in

@@ -10,24 +10,24 @@ use borrow.Author.Rules.{rules}
 use Rattle.replays.proofs.within.Goals as goal
 
 pub slice_bounds-fresh-end-2 : goal.slice_bounds-fresh-end-2
-slice_bounds-fresh-end-2 c = 
+slice_bounds-fresh-end-2 c =
     let a = c.args in
     sym (length-take-le a.size a.symbols.now (omega arith))
 
 pub slice_bounds-fresh-end-4 : goal.slice_bounds-fresh-end-4
-slice_bounds-fresh-end-4 c = 
+slice_bounds-fresh-end-4 c =
     let a = c.args in
     sym (length-take-le a.size a.frequencies.now (omega arith))
 
 pub fresh-requires : goal.fresh-requires
-fresh-requires c = 
+fresh-requires c =
     let a = c.args in
     let s : length (take a.size a.symbols.now) ≡ a.size = length-take-le a.size a.symbols.now (omega arith) in
     let f : length (take a.size a.frequencies.now) ≡ a.size = length-take-le a.size a.frequencies.now (omega arith) in
     (omega arith, f ∙ sym s)
 
 pub returns : goal.returns
-returns c = 
+returns c =
     let a = c.args in
     let r = c.fresh in
     let s : length (take a.size a.symbols.now) ≡ a.size = length-take-le a.size a.symbols.now (omega arith) in

@@ -13,14 +13,14 @@ returns-then-new-old c = took _ _ (eq-eqb _ _ c.if-new-old.true) refl
 
 pub returns-then-new-old-2 : goal.returns-then-new-old-2
 unfolding rise_of
-returns-then-new-old-2 c = 
+returns-then-new-old-2 c =
     let a = c.args in
     let down : a.new < a.old = omega arith in
     left _ _ (ne_eqb _ _ c.if-new-old.false) (took _ _ (lt-ltb _ _ down) refl)
 
 pub returns-then-d-gt255 : goal.returns-then-d-gt255
 unfolding rise_of
-returns-then-d-gt255 c = 
+returns-then-d-gt255 c =
     let a = c.args in
     let up : a.old ≤ a.new = omega arith in
     let far : 255 < a.new - a.old = omega arith in
@@ -28,7 +28,7 @@ returns-then-d-gt255 c =
 
 pub returns : goal.returns
 unfolding rise_of
-returns c = 
+returns c =
     let a = c.args in
     let up : a.old ≤ a.new = omega arith in
     let near : a.new - a.old ≤ 255 = omega arith in

@@ -20,36 +20,36 @@ abbrev mem : goal.Start → Memory
 mem p = let a = p.args in memory a.text.now (in_rows a.rows.now) a.cursors.now
 
 pub returns-then-q-p : goal.returns-then-q-p
-returns-then-q-p c = 
+returns-then-q-p c =
     let a = c.args in record {
       value = ran_none (src (goal.at.returns-then-q-p c).Start) (back (goal.at.returns-then-q-p c).Start) a.end.0 a.p.0 c.run_end-q.result.0 a.len c.run_end-q.ensures c.if-q-p.true;
       cursors_value = puts_none (back (goal.at.returns-then-q-p c).Start) a.used a.row a.p.0 a.len (mem (goal.at.returns-then-q-p c).Start) a.keeping a.p.0 a.len (omega arith);
     }
 
 pub overflow_add-first-2 : goal.overflow_add-first-2
-overflow_add-first-2 c = 
+overflow_add-first-2 c =
     let a = c.args in let q = c.run_end-q in
     let f = run_few (src (goal.at.overflow_add-first-2 c).Start) (back (goal.at.overflow_add-first-2 c).Start) a.used a.end.0 a.p.0 q.result.0 c.requires.rows c.requires.reaches c.requires.le_p.0 q.ensures (omega arith) in
     record { fits = omega (arith, f.0, c.requires.used_bound) }
 
 pub run_length-w-requires : goal.run_length-w-requires
-run_length-w-requires c = 
+run_length-w-requires c =
     let a = c.args in let q = c.run_end-q in
-    length_asks (src (goal.at.run_length-w-requires c).Start) (back (goal.at.run_length-w-requires c).Start) a.used a.end.0 a.p.0 q.result.0 c.requires.rows c.requires.reaches c.requires.le_p.0 q.ensures (omega arith) c.requires.used_bound.0 -- ?? from_lt_to,from_bound,to_bound
+    length_asks (src (goal.at.run_length-w-requires c).Start) (back (goal.at.run_length-w-requires c).Start) a.used a.end.0 a.p.0 q.result.0 c.requires.rows c.requires.reaches c.requires.le_p.0 q.ensures (omega arith) c.requires.used_bound.0  -- ?? from_lt_to,from_bound,to_bound
 
 pub returns-then-len-w : goal.returns-then-len-w
-returns-then-len-w c = 
+returns-then-len-w c =
     let a = c.args in let q = c.run_end-q in let w = c.run_length-w in record {
       value = ran_long (src (goal.at.returns-then-len-w c).Start) (back (goal.at.returns-then-len-w c).Start) a.end.0 a.p.0 q.result.0 a.len q.ensures w.result w.ensures (omega (arith, c.if-q-p.false)) (omega (arith, c.if-len-w.true, c.requires.le_p));
       cursors_value = puts_long (back (goal.at.returns-then-len-w c).Start) a.used a.row a.p.0 a.len (mem (goal.at.returns-then-len-w c).Start) a.keeping;
     }
 
 pub overflow_add-used : goal.overflow_add-used
-overflow_add-used c = 
+overflow_add-used c =
     record { fits = omega (arith, c.requires.le_p, c.requires.used_bound) }
 
 pub repeat-requires : goal.repeat-requires
-repeat-requires c = 
+repeat-requires c =
     let a = c.args in let q = c.run_end-q in let w = c.run_length-w in
     let some : a.p.0 < q.result.0 = omega (arith, c.if-q-p.false) in
     let f = run_few (src (goal.at.repeat-requires c).Start) (back (goal.at.repeat-requires c).Start) a.used a.end.0 a.p.0 q.result.0 c.requires.rows c.requires.reaches c.requires.le_p.0 q.ensures some in
@@ -66,11 +66,11 @@ repeat-requires c =
     }
 
 pub overflow_add-result : goal.overflow_add-result
-overflow_add-result c = 
+overflow_add-result c =
     record { fits = omega (arith, c.if-len-w.false, c.requires.le_p) }
 
 pub returns-then-keeping : goal.returns-then-keeping
-returns-then-keeping c = 
+returns-then-keeping c =
     let a = c.args in let q = c.run_end-q in let w = c.run_length-w in
     let some : a.p.0 < q.result.0 = omega (arith, c.if-q-p.false) in record {
       value = ran_on_law (src (goal.at.returns-then-keeping c).Start) (back (goal.at.returns-then-keeping c).Start) a.end.0 a.p.0 q.result.0 a.len q.ensures w.result w.ensures some (omega (arith, c.if-len-w.false, c.requires.le_p));
@@ -78,7 +78,7 @@ returns-then-keeping c =
     }
 
 pub returns : goal.returns
-returns c = 
+returns c =
     let a = c.args in let q = c.run_end-q in let w = c.run_length-w in record {
       value = ran_on_law (src (goal.at.returns c).Start) (back (goal.at.returns c).Start) a.end.0 a.p.0 q.result.0 a.len q.ensures w.result w.ensures (omega (arith, c.if-q-p.false)) (omega (arith, c.if-len-w.false, c.requires.le_p));
       cursors_value = puts_not (back (goal.at.returns c).Start) a.used a.row a.p.0 a.len (mem (goal.at.returns c).Start) a.keeping q.result.0 (a.len + w.result) c.if-keeping.false;

@@ -26,13 +26,13 @@ seen x =
     x.is_match.ensures ∙ ap is_match (x.type_in.ensures ∙ ap (type_in rules.numbers) (x.byte_in-found.ensures rules))
 
 pub returns-then-not-is_match : goal.returns-then-not-is_match
-returns-then-not-is_match c = 
+returns-then-not-is_match c =
     let l = c.loop-q in let a = c.args in
     let e = run_stops (src (goal.at.returns-then-not-is_match c).At-loop-q) l.q (a.end.0 - l.q) (a.end.0 - (l.q + 1)) (omega arith) (sym (seen (goal.at.returns-then-not-is_match c).After-is_match) ∙ c.if-not-is_match.true) in
     omega (arith, l.invariant.1)
 
 pub loop-q-preserved : goal.loop-q-preserved
-loop-q-preserved c = 
+loop-q-preserved c =
     let l = c.loop-q in let a = c.args in (
       omega arith,
       run_more (src (goal.at.loop-q-preserved c).At-loop-q) l.q (a.end.0 - l.q) (a.end.0 - (l.q + 1)) (omega arith)
@@ -41,6 +41,6 @@ loop-q-preserved c =
     )
 
 pub returns : goal.returns
-returns c = 
+returns c =
     let l = c.loop-q in let a = c.args in
     run_over (src (goal.at.returns c).At-loop-q) l.q (a.end.0 - l.q) (omega arith) ∙ l.invariant.1

@@ -6,15 +6,15 @@ use borrow.Author.Rules.{rules}
 use Rattle.sources.proofs.text_in.Goals as goal
 
 pub cursor_of-c-requires : goal.cursor_of-c-requires
-cursor_of-c-requires c = 
+cursor_of-c-requires c =
     (c.requires.fact.table, omega (arith, span_below c.args.p.0 c.args.stream (omega arith) (omega arith)))
 
 pub end_of-end-requires : goal.end_of-end-requires
-end_of-end-requires c = 
+end_of-end-requires c =
     (c.requires.fact.directory, omega (arith, span_below c.args.p.0 c.args.stream (omega arith) (omega arith)))
 
 pub text_in-requires : goal.text_in-requires
-text_in-requires c = 
+text_in-requires c =
     let i = c.span_of-span.result.0 in
     let h = span_below c.args.p.0 c.args.stream (omega arith) (omega arith) in
     let l : i < 1290 = omega (arith, c.span_of-span.ensures) in
@@ -22,6 +22,6 @@ text_in-requires c =
 
 pub returns : goal.returns
 unfolding text_in
-returns c = 
+returns c =
     λ rules.
     rw (← c.span_of-span.ensures, ← c.cursor_of-c.ensures, ← c.end_of-end.ensures) c.text_in.ensures

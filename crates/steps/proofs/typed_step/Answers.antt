@@ -8,7 +8,7 @@ use borrow.Author.Rules.{rules}
 use Rattle.steps.proofs.typed_step.Goals as goal
 
 pub returns-then-is_last : goal.returns-then-is_last
-returns-then-is_last c = 
+returns-then-is_last c =
     let a = c.args in
     let s = source (rules_of a.set) a.bytes.now a.dir.now a.cursors.now in
     let e = earlier a.text.now (in_rows a.rows.now) a.first a.count in
@@ -16,7 +16,7 @@ returns-then-is_last c =
     (typed_last s e a.p.0 _ _ c.type_of.ensures (sym c.is_last.ensures ∙ c.if-is_last.true) (c.last_step.ensures s e a.p.0 _))
 
 pub returns-else-is_last : goal.returns-else-is_last
-returns-else-is_last c = 
+returns-else-is_last c =
     let a = c.args in
     let s = source (rules_of a.set) a.bytes.now a.dir.now a.cursors.now in
     let e = earlier a.text.now (in_rows a.rows.now) a.first a.count in

@@ -20,13 +20,13 @@ returns-in-Digits0 c = λ rules. rw c.in-Digits0.is (c.digits0_at.ensures rules)
 
 pub returns-in-Delta : goal.returns-in-Delta
 unfolding value_step
-returns-in-Delta c = 
+returns-in-Delta c =
     λ rules.
     rw c.in-Delta.is (c.delta_at.ensures rules c.args.text.now)
 
 pub returns-in-Delta0 : goal.returns-in-Delta0
 unfolding value_step
-returns-in-Delta0 c = 
+returns-in-Delta0 c =
     λ rules.
     rw c.in-Delta0.is (c.delta0_at.ensures rules c.args.text.now)
 

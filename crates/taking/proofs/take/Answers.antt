@@ -6,7 +6,7 @@ use borrow.Author.Rules.{rules}
 use Rattle.taking.proofs.take.Goals as goal
 
 pub keep_token-w-requires : goal.keep_token-w-requires
-keep_token-w-requires c = 
+keep_token-w-requires c =
     let k = c.requires.keepable_at c.if-keeping.true in
     let room = k.table in record {
       inside = c.requires.inside;
@@ -17,21 +17,21 @@ keep_token-w-requires c =
     }
 
 pub returns-then-keeping : goal.returns-then-keeping
-returns-then-keeping c = 
+returns-then-keeping c =
     let k = c.if-keeping.true in let x = c.keep_token-w.ensures in record {
       value = kept_on _ _ _ _ _ k x.value;
       cursors_value = took _ _ k (put_typed _ _ _ _ _ _ _ c.type_in-ty.ensures x.cursors_value);
     }
 
 pub returns-then-prints : goal.returns-then-prints
-returns-then-prints c = 
+returns-then-prints c =
     let k = c.if-keeping.false in record {
       value = judged_on _ _ _ _ _ k c.prints.ensures c.if-prints.true c.length-w.ensures;
       cursors_value = left _ _ k refl;
     }
 
 pub returns-else-prints : goal.returns-else-prints
-returns-else-prints c = 
+returns-else-prints c =
     let k = c.if-keeping.false in record {
       value = judged_spoils _ _ _ _ _ k c.prints.ensures c.if-prints.false;
       cursors_value = left _ _ k refl;

@@ -18,18 +18,18 @@ number_room x w e r = rw e (first_room (digits0_word ++ printed x.number) (slash
 
 pub put_labelled-next-requires : goal.put_labelled-next-requires
 unfolding digits0_word
-put_labelled-next-requires c = 
+put_labelled-next-requires c =
     let a = c.args in
     number_room a.x (page a.out.now a.at) (omega arith) c.requires
 
 pub put_labelled-requires : goal.put_labelled-requires
 unfolding padded_text digits0_word slash
-put_labelled-requires c = 
+put_labelled-requires c =
     let a = c.args in
     next_room (digits0_word ++ printed a.x.number) (slash ++ printed a.x.width) (page a.out.now a.at) c.requires c.put_labelled-next.ensures
 
 pub returns : goal.returns
 unfolding padded_text digits0_word slash
-returns c = 
+returns c =
     let a = c.args in
     said_next (digits0_word ++ printed a.x.number) (slash ++ printed a.x.width) (page a.out.now a.at) c.requires c.put_labelled-next.ensures c.put_labelled.ensures

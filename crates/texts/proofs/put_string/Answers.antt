@@ -8,13 +8,13 @@ use Rattle.texts.proofs.put_string.Goals as goal
 
 pub put-next-requires : goal.put-next-requires
 unfolding string_text string_word
-put-next-requires c = 
+put-next-requires c =
     let a = c.args in
     first_room string_word (part a.name.now a.from a.to) (page a.out.now a.at) c.requires.has_room
 
 pub put_part-requires : goal.put_part-requires
 unfolding string_text string_word
-put_part-requires c = 
+put_part-requires c =
     let a = c.args in record {
       from_le_to = c.requires.from_le_to;
       has_room = next_room string_word (part a.name.now a.from a.to) (page a.out.now a.at) c.requires.has_room c.put-next.ensures;
@@ -22,6 +22,6 @@ put_part-requires c =
 
 pub returns : goal.returns
 unfolding string_text string_word
-returns c = 
+returns c =
     let a = c.args in
     said_next string_word (part a.name.now a.from a.to) (page a.out.now a.at) c.requires.has_room c.put-next.ensures c.put_part.ensures

@@ -12,26 +12,26 @@ use Rattle.tokenputs.proofs.Walks.{Walking, walk_start, walk_room, walk_more, wa
 use Rattle.tokenputs.proofs.put_tokens.Goals as goal
 
 pub loop-a-init : goal.loop-a-init
-loop-a-init c = 
+loop-a-init c =
     let a = c.args in
     (refl, (refl, walk_start a.pass a.before.now a.name.now (world a.total a.directory.now a.bytes.now) c.requires.roomy))
 
 pub cut_at-e-requires : goal.cut_at-e-requires
-cut_at-e-requires c = 
+cut_at-e-requires c =
     c.requires.table_value
 
 pub cut_at-f-requires : goal.cut_at-f-requires
-cut_at-f-requires c = 
+cut_at-f-requires c =
     c.requires.table_value
 
 pub choice_at-c-requires : goal.choice_at-c-requires
 choice_at-c-requires c = record {
-      table_value = c.requires.table_value;
-      a_in_bounds = (c.loop-a-test.true, (c.cut_at-e.ensures, c.cut_at-f.ensures));
-    }
+  table_value = c.requires.table_value;
+  a_in_bounds = (c.loop-a-test.true, (c.cut_at-e.ensures, c.cut_at-f.ensures));
+}
 
 pub put_choice-sum-requires : goal.put_choice-sum-requires
-put_choice-sum-requires c = 
+put_choice-sum-requires c =
     let l = c.loop-a in
     let a = c.args in
     let e = c.choice_at-c.ensures in
@@ -41,13 +41,13 @@ put_choice-sum-requires c =
     }
 
 pub overflow_add-p : goal.overflow_add-p
-overflow_add-p c = 
+overflow_add-p c =
     let l = c.loop-a in
     let h : l.p ≤ 128 = l.invariant.1.1.high in
     omega arith
 
 pub loop-a-smaller : goal.loop-a-smaller
-loop-a-smaller c = 
+loop-a-smaller c =
     let l = c.loop-a in
     let a = c.args in
     let h : l.a < length a.name.now = c.loop-a-test.true in
@@ -55,7 +55,7 @@ loop-a-smaller c =
     omega (arith, cut_end a.name.now l.p l.a c.cut_at-e.ensures)
 
 pub loop-a-preserved : goal.loop-a-preserved
-loop-a-preserved c = 
+loop-a-preserved c =
     let l = c.loop-a in
     let a = c.args in
     let k = c.put_choice-sum.auto in (
@@ -67,26 +67,26 @@ loop-a-preserved c =
     )
 
 pub span_of-span-requires : goal.span_of-span-requires
-span_of-span-requires c = 
+span_of-span-requires c =
     let h : c.loop-a.p ≤ 128 = c.loop-a.invariant.1.1.high in
     omega arith
 
 pub put_byte-requires : goal.put_byte-requires
-put_byte-requires c = 
+put_byte-requires c =
     let l = c.loop-a in
     let a = c.args in
     rw c.span_of-span.ensures (walk_last a.pass a.before.now a.name.now (world a.total a.directory.now a.bytes.now) (world l.sum l.directory l.bytes) l.p l.a l.b l.invariant.1.1 c.loop-a-test.false)
 
 pub shape_of-directory : goal.shape_of-directory
-shape_of-directory c = 
+shape_of-directory c =
     c.put_byte.auto.directory ∙ c.loop-a.invariant.0
 
 pub shape_of-bytes : goal.shape_of-bytes
-shape_of-bytes c = 
+shape_of-bytes c =
     c.put_byte.auto.bytes ∙ c.loop-a.invariant.1.0
 
 pub returns : goal.returns
-returns c = 
+returns c =
     let l = c.loop-a in
     let a = c.args in
     walk_end a.pass a.before.now a.name.now (world a.total a.directory.now a.bytes.now) (world l.sum l.directory l.bytes) l.p l.a l.b l.invariant.1.1 c.loop-a-test.false c.type_number-b.ensures (rw (← c.span_of-span.ensures) c.put_byte.ensures)

@@ -5,7 +5,7 @@ use borrow.Author.Rules.{rules}
 use Rattle.tokens.proofs.allowed.Goals as goal
 
 pub text_allowed-requires : goal.text_allowed-requires
-text_allowed-requires c = 
+text_allowed-requires c =
     rw c.in-String.is at c.requires
 
 pub returns-in-String : goal.returns-in-String

@@ -5,13 +5,13 @@ use Rattle.tokens.proofs.text_allowed.Goals as goal
 
 pub all_allowed-requires : goal.all_allowed-requires
 unfolding pick
-all_allowed-requires c = 
+all_allowed-requires c =
     let e = rw c.if-t.true at c.requires.1 in
     omega arith
 
 pub all_allowed-requires-else-t : goal.all_allowed-requires-else-t
 unfolding pick
-all_allowed-requires-else-t c = 
+all_allowed-requires-else-t c =
     let e = rw c.if-t.false at c.requires.1 in
     omega arith
 

@@ -52,13 +52,13 @@ stepped x =
 
 pub typed_step-requires : goal.typed_step-requires
 typed_step-requires c = record {
-      fact = c.requires.fact;
-      rows = rows_reach c.args.at.used (back (goal.at.typed_step-requires c).After-slice_known-3-1) c.requires.rows (omega arith);
-      count_bound = (omega arith, c.requires.placed.0.0);
-    }
+  fact = c.requires.fact;
+  rows = rows_reach c.args.at.used (back (goal.at.typed_step-requires c).After-slice_known-3-1) c.requires.rows (omega arith);
+  count_bound = (omega arith, c.requires.placed.0.0);
+}
 
 pub take-requires : goal.take-requires
-take-requires c = 
+take-requires c =
     let q = sym (stepped (goal.at.take-requires c).After-typed_step) ∙ c.in-Got.is in record {
       inside = token_inside (src (goal.at.take-requires c).After-slice_known-3-1) (back (goal.at.take-requires c).After-slice_known-3-1) c.args.at (known (goal.at.take-requires c).After-slice_known-3-1) (dir_below_law (goal.at.take-requires c).After-slice_known-3-1) _ _ q;
       placed = c.requires.placed.0;
@@ -66,7 +66,7 @@ take-requires c =
     }
 
 pub returns-in-Got : goal.returns-in-Got
-returns-in-Got c = 
+returns-in-Got c =
     let rules = rules_of c.args.set in
     let q = sym (stepped (goal.at.returns-in-Got c).After-typed_step) ∙ c.in-Got.is in let x = c.take.ensures in record {
       value = turn_got _ _ _ _ q x.value;
@@ -75,12 +75,12 @@ returns-in-Got c =
 
 pub returns-in-End : goal.returns-in-End
 returns-in-End c = let q = sym (stepped (goal.at.returns-in-End c).After-typed_step) ∙ c.in-End.is in record {
-      value = turn_ends _ _ _ _ q;
-      cursors_value = end_leaves _ _ _ _ _ q;
-    }
+  value = turn_ends _ _ _ _ q;
+  cursors_value = end_leaves _ _ _ _ _ q;
+}
 
 pub returns-in-Refused : goal.returns-in-Refused
-returns-in-Refused c = 
+returns-in-Refused c =
     let q = sym (stepped (goal.at.returns-in-Refused c).After-typed_step) ∙ c.in-Refused.is in record {
       value = turn_refuses _ _ _ _ q;
       cursors_value = refusal_leaves _ _ _ _ _ q;

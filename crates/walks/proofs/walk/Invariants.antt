@@ -14,7 +14,7 @@ use Rattle.tables.proofs.Rows.{numbers_below}
 use Rattle.walks.proofs.walk.Given as goal
 
 abbrev pub invariant-loop-p : goal.invariant-loop-p
-invariant-loop-p l = 
+invariant-loop-p l =
     Walking
     (record { keeping = l.keep; rules = rules_of l.set; bytes = l.bytes; dir = l.dir; start = memory l.initial.text (in_rows l.initial.rows) l.initial.cursors; first = l.first; count = l.count; used = l.used; row = l.row; end = l.end.0 })
     (memory l.text (in_rows l.rows) l.cursors) l.p.0 l.len

@@ -7,46 +7,46 @@ use Rattle.writing.proofs.Laid.{countable_of, unended, too_many, refused_1, refu
 use Rattle.writing.proofs.write.Goals as goal
 
 pub returns-then-directory-ne-DIRECTORY : goal.returns-then-directory-ne-DIRECTORY
-returns-then-directory-ne-DIRECTORY c = 
+returns-then-directory-ne-DIRECTORY c =
     let a = c.args in
     refused_1 (rules_of a.set) a.input.now a.directory.now a.bytes.now c.if-directory-ne-DIRECTORY.true
 
 pub returns-then-not-all_ended : goal.returns-then-not-all_ended
-returns-then-not-all_ended c = 
+returns-then-not-all_ended c =
     let a = c.args in
     refused_12 (rules_of a.set) a.input.now a.directory.now a.bytes.now c.if-directory-ne-DIRECTORY.false (unended a.input.now (sym c.all_ended.ensures ∙ not-true _ c.if-not-all_ended.true-raw))
 
 pub returns-then-count : goal.returns-then-count
-returns-then-count c = 
+returns-then-count c =
     let a = c.args in
     refused_12 (rules_of a.set) a.input.now a.directory.now a.bytes.now c.if-directory-ne-DIRECTORY.false (too_many a.input.now (sym c.all_ended.ensures ∙ not-false _ c.if-not-all_ended.false-raw) (omega (arith, c.count-count.ensures, c.if-count.true)))
 
 pub judge-requires : goal.judge-requires
-judge-requires c = 
+judge-requires c =
     let a = c.args in record {
       table_value = c.table-table.ensures;
       input_value = ((sym c.all_ended.ensures ∙ not-false _ c.if-not-all_ended.false-raw), omega (arith, c.count-count.ensures, c.if-count.false));
     }
 
 pub lay-requires : goal.lay-requires
-lay-requires c = 
+lay-requires c =
     let a = c.args in record {
       table_value = c.table-table.ensures;
       ready = record {
-          ends = (sym c.all_ended.ensures ∙ not-false _ c.if-not-all_ended.false-raw);
-          few = omega (arith, c.count-count.ensures, c.if-count.false);
-          fine = sym c.judge.ensures ∙ c.in-Fine.is;
-          table = c.if-directory-ne-DIRECTORY.false;
-        };
+        ends = (sym c.all_ended.ensures ∙ not-false _ c.if-not-all_ended.false-raw);
+        few = omega (arith, c.count-count.ensures, c.if-count.false);
+        fine = sym c.judge.ensures ∙ c.in-Fine.is;
+        table = c.if-directory-ne-DIRECTORY.false;
+      };
       names_value = c.count-count.ensures;
     }
 
 pub returns-in-Bad : goal.returns-in-Bad
-returns-in-Bad c = 
+returns-in-Bad c =
     let a = c.args in
     judged (rules_of a.set) a.input.now a.directory.now a.bytes.now c.if-directory-ne-DIRECTORY.false (countable_of a.input.now (sym c.all_ended.ensures ∙ not-false _ c.if-not-all_ended.false-raw) (omega (arith, c.count-count.ensures, c.if-count.false))) (sym c.judge.ensures ∙ c.in-Bad.is) (refused_8 (rules_of a.set) a.input.now a.directory.now a.bytes.now _)
 
 pub returns-in-Fine : goal.returns-in-Fine
-returns-in-Fine c = 
+returns-in-Fine c =
     let a = c.args in
     judged (rules_of a.set) a.input.now a.directory.now a.bytes.now c.if-directory-ne-DIRECTORY.false (countable_of a.input.now (sym c.all_ended.ensures ∙ not-false _ c.if-not-all_ended.false-raw) (omega (arith, c.count-count.ensures, c.if-count.false))) (sym c.judge.ensures ∙ c.in-Fine.is) (accepted (rules_of a.set) a.input.now a.directory.now a.bytes.now c.lay.ensures)

@@ -7,7 +7,7 @@ use borrow.Author.Rules.{rules}
 use Rattle.kept.proofs.judgement.earlier_fits.Goals as goal
 
 pub rows_fit-requires : goal.rows_fit-requires
-rows_fit-requires c = 
+rows_fit-requires c =
     let a = c.args in
     let e = c.entry_at-e.result in
     let t = and_true c.entry_text.result c.entry_rows.result c.if-entry_text-entry_rows.true in
@@ -16,9 +16,9 @@ rows_fit-requires c =
     omega arith
 
 pub returns-then-entry_text-entry_rows : goal.returns-then-entry_text-entry_rows
-returns-then-entry_text-entry_rows c = 
+returns-then-entry_text-entry_rows c =
     earlier_taken _ _ c.entry_at-e.ensures c.entry_text.ensures c.entry_rows.ensures c.if-entry_text-entry_rows.true c.rows_fit.ensures
 
 pub returns-else-entry_text-entry_rows : goal.returns-else-entry_text-entry_rows
-returns-else-entry_text-entry_rows c = 
+returns-else-entry_text-entry_rows c =
     earlier_left _ _ c.entry_at-e.ensures c.entry_text.ensures c.entry_rows.ensures c.if-entry_text-entry_rows.false

@@ -10,7 +10,7 @@ use Rattle.kept.proofs.Steps.{rows_start, rows_turn, rows_done}
 use Rattle.kept.proofs.judgement.rows_fit.Given as goal
 
 abbrev pub invariant-loop-i : goal.invariant-loop-i
-invariant-loop-i l = 
+invariant-loop-i l =
     (l.i ≤ l.end) × ((l.end ≡ l.first + l.many) × (both l.ok (rows_fit l.used (in_rows l.rows) l.i (l.end - l.i)) ≡ rows_fit l.used (in_rows l.rows) l.first l.many))
 
 abbrev pub decreases-loop-i : goal.decreases-loop-i

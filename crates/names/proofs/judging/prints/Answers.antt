@@ -8,13 +8,13 @@ use borrow.Author.Rules.{rules}
 use Rattle.names.proofs.judging.prints.Goals as goal
 
 pub returns-then-before-length : goal.returns-then-before-length
-returns-then-before-length c = 
+returns-then-before-length c =
     let a = c.args in let b = bytes_of a.bytes.now a.text.now a.t in
     let e : a.length ≡ length b = c.requires.length_len.0 ∙ sym (length_bytes a.bytes.now a.text.now a.t c.requires.inside) in
     long_spoils b a.before a.length e (omega arith)
 
 pub returns : goal.returns
-returns c = 
+returns c =
     let a = c.args in let b = bytes_of a.bytes.now a.text.now a.t in
     let e : a.length ≡ length b = c.requires.length_len.0 ∙ sym (length_bytes a.bytes.now a.text.now a.t c.requires.inside) in
     short_prints b a.before a.length e (omega arith) c.allowed.ensures

@@ -9,16 +9,16 @@ pub loop-i-init : goal.loop-i-init
 loop-i-init c = (refl, search rules)
 
 pub returns-then-bytes-i-eq0 : goal.returns-then-bytes-i-eq0
-returns-then-bytes-i-eq0 c = 
+returns-then-bytes-i-eq0 c =
     let l = c.loop-i in
     text_found _ _ _ (sym l.invariant.0 ∙ end_here _ _ _ (search rules) c.if-bytes-i-eq0.true) (search rules)
 
 pub loop-i-preserved : goal.loop-i-preserved
-loop-i-preserved c = 
+loop-i-preserved c =
     let l = c.loop-i in
     (end_next _ _ _ (search rules) c.if-bytes-i-eq0.false ∙ l.invariant.0, l.invariant.1)
 
 pub returns : goal.returns
-returns c = 
+returns c =
     let l = c.loop-i in
     text_none _ _ _ (sym l.invariant.0 ∙ end_out _ _ _ (search rules)) (search rules)
