@@ -1,4 +1,4 @@
-//! Links libaqsurvel.a from AQSURVEL_LIB_DIR, or from where `rt staticlib aqsurvel` puts it.
+//! Links libaqsurvel.a from AQSURVEL_LIB_DIR, or from where `tools/archive` puts it.
 
 use std::env;
 use std::path::{Path, PathBuf};
@@ -8,7 +8,7 @@ fn main() {
     let archive = folder.join("libaqsurvel.a");
     assert!(
         archive.exists(),
-        "{} isn't there: run `rt staticlib aqsurvel` or set AQSURVEL_LIB_DIR",
+        "{} isn't there: run `tools/archive` or set AQSURVEL_LIB_DIR",
         archive.display()
     );
     println!("cargo:rustc-link-search=native={}", folder.display());
