@@ -1,6 +1,7 @@
 // The reader of one span: a small thing that holds the bytes left to it and gives the next byte, the next four or a text.
 // Few functions take it, and each only takes it apart; callers with bytes and cursors use byte_in, four_in and text_in.
 #![tactic(auto)]
+
 ghost use Rattle.std.specs.Prelude.{◌≡◌, ◌≤◌, length};
 ghost use Rattle.base.specs.Memory.{part};
 ghost use Rattle.spans.specs.Spans.{byte_at, four_at, text_at};
