@@ -1,5 +1,6 @@
 // The model as one record, lent: it is taken apart, and its parts are lent on.
 #![tactic(auto)]
+
 ghost use Rattle.std.specs.Prelude.{◌≡◌};
 ghost use Rattle.model.specs.Sound.{Sound};
 ghost use Rattle.replays.specs.Replays.{replaying, table_in, step_of, replay_of};
