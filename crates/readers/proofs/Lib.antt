@@ -1,4 +1,2 @@
-pub mod Asked
 pub mod Laws
-pub mod Made
 pub mod Moved

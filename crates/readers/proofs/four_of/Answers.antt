@@ -1,4 +1,3 @@
-use borrow.Author.Rules.{rules}
 use native.Mathlib.Omega.{arith}
 use Rattle.readers.specs.Readers.{four_of}
 use Rattle.readers.proofs.Laws.{left_within}
