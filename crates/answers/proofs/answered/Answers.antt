@@ -1,5 +1,4 @@
 use Rattle.answers.specs.Answers.{read_number}
-use borrow.Author.Rules.{rules}
 use Rattle.answers.proofs.answered.Goals as goal
 
 pub returns-in-Kept : goal.returns-in-Kept

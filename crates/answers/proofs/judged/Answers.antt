@@ -1,5 +1,4 @@
 use Rattle.answers.specs.Answers.{verdict_number}
-use borrow.Author.Rules.{rules}
 use Rattle.answers.proofs.judged.Goals as goal
 
 pub returns-in-Confirmed : goal.returns-in-Confirmed

@@ -1,4 +1,3 @@
-use borrow.Author.Rules.{rules}
 use Rattle.aqsurvel.proofs.aq_claim.Goals as goal
 
 pub returns : goal.returns

@@ -1,10 +1,10 @@
 use borrow.Author.Rules.{rules}
 use native.Mathlib.Omega.{arith}
-use Prim.Native.Nat.{ℕ, ◌-◌, ◌≤◌, ◌+◌}
-use mathlib.Core.Path.{◌≡◌, refl, ap, ◌∙◌}
+use Prim.Native.Nat.{ℕ, ◌+◌}
+use mathlib.Core.Path.{refl, ap, ◌∙◌}
 use mathlib.Core.List.{List}
-use lib.ListN.{length, set, get_or, length-set}
-use lib.Seq.{paste, paste-zero}
+use lib.ListN.{set, get_or, length-set}
+use lib.Seq.{paste-zero}
 use Rattle.base.specs.Memory.{part}
 use Rattle.base.proofs.Memory.{copy_step, pasted, length_part}
 use Rattle.base.proofs.copy_at.Goals as goal

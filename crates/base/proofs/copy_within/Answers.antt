@@ -1,9 +1,8 @@
 use borrow.Author.Rules.{rules}
 use native.Mathlib.Omega.{arith}
-use Prim.Native.Nat.{◌-◌, ◌≤◌}
-use mathlib.Core.Path.{◌≡◌, refl, ◌∙◌}
-use lib.ListN.{length, length-set}
-use lib.Seq.{paste, paste-zero}
+use mathlib.Core.Path.{refl, ◌∙◌}
+use lib.ListN.{length-set}
+use lib.Seq.{paste-zero}
 use Rattle.base.specs.Memory.{part}
 use Rattle.base.proofs.Memory.{within_step, pasted, length_part}
 use Rattle.base.proofs.copy_within.Goals as goal

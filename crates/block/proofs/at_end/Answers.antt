@@ -1,9 +1,7 @@
 use borrow.Author.Rules.{rules}
 use native.Mathlib.Omega.{arith}
-use Prim.Native.Nat.{◌≤◌, ◌-◌, ◌+◌}
-use mathlib.Core.Path.{◌≡◌}
-use Rattle.base.specs.Choice.{both}
-use Rattle.block.specs.Block.{end_of, cursor_of, at_end, at_end_from, all_at_end}
+use Prim.Native.Nat.{◌-◌, ◌+◌}
+use Rattle.block.specs.Block.{end_of, cursor_of, at_end, all_at_end}
 use Rattle.base.proofs.Choice.{both_none, and_both}
 use Rattle.base.proofs.Every.{every_turn, every_done}
 use Rattle.block.proofs.at_end.Goals as goal

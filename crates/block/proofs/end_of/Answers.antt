@@ -1,6 +1,5 @@
 use mathlib.Core.Path.{refl}
 use Rattle.block.specs.Block.{end_of}
-use borrow.Author.Rules.{rules}
 use Rattle.block.proofs.end_of.Goals as goal
 
 pub returns : goal.returns

@@ -5,7 +5,6 @@ use lib.ListN.{length}
 use Rattle.base.proofs.Choice.{left}
 use Rattle.block.specs.Block.{all_inside, verdict, verdict_of}
 use Rattle.block.proofs.Laws.{not_directory, not_table, sound_is, sound_reach}
-use borrow.Author.Rules.{rules}
 use Rattle.block.proofs.judge.Goals as goal
 
 pub returns-then-dir-ne-DIRECTORY : goal.returns-then-dir-ne-DIRECTORY

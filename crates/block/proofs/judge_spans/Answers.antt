@@ -1,10 +1,9 @@
 use borrow.Author.Rules.{rules}
 use native.Mathlib.Omega.{arith}
-use Prim.Native.Nat.{◌≤◌, ◌-◌, ◌+◌}
+use Prim.Native.Nat.{◌-◌, ◌+◌}
 use mathlib.Core.Path.{◌≡◌, sym, ◌∙◌}
 use mathlib.Core.Bool.{true}
-use Rattle.base.specs.Choice.{pick, both}
-use Rattle.base.specs.Every.{each}
+use Rattle.base.specs.Choice.{pick}
 use Rattle.block.specs.Block.{start_of, end_of, cursor_of, inside, sound_from}
 use Rattle.base.proofs.Choice.{both_none, and_both, both_both, never, fails}
 use Rattle.base.proofs.Every.{every_turn, every_done}

@@ -1,10 +1,10 @@
 use borrow.Author.Rules.{rules}
 use native.Mathlib.Omega.{arith}
-use Prim.Native.Nat.{ℕ, ◌≤◌, ◌-◌}
-use mathlib.Core.Path.{◌≡◌, ap, ◌∙◌}
+use Prim.Native.Nat.{ℕ, ◌-◌}
+use mathlib.Core.Path.{ap, ◌∙◌}
 use mathlib.Core.List.{List}
-use lib.ListN.{length, set, length-set}
-use lib.Seq.{paste, paste-zero}
+use lib.ListN.{set, length-set}
+use lib.Seq.{paste-zero}
 use Rattle.block.specs.Block.{start_of, starts}
 use Rattle.block.proofs.Laws.{starts_turn, starts_done}
 use Rattle.block.proofs.set_starts.Goals as goal

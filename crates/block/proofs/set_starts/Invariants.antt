@@ -1,12 +1,8 @@
-use borrow.Author.Rules.{rules}
-use native.Mathlib.Omega.{arith}
-use Prim.Native.Nat.{ℕ, ◌≤◌, ◌-◌}
-use mathlib.Core.Path.{◌≡◌, ap, ◌∙◌}
-use mathlib.Core.List.{List}
-use lib.ListN.{length, set, length-set}
-use lib.Seq.{paste, paste-zero}
-use Rattle.block.specs.Block.{start_of, starts}
-use Rattle.block.proofs.Laws.{starts_turn, starts_done}
+use Prim.Native.Nat.{◌≤◌, ◌-◌}
+use mathlib.Core.Path.{◌≡◌}
+use lib.ListN.{length}
+use lib.Seq.{paste}
+use Rattle.block.specs.Block.{starts}
 use Rattle.block.proofs.set_starts.Given as goal
 
 abbrev pub invariant-loop-i : goal.invariant-loop-i

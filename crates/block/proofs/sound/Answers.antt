@@ -2,7 +2,6 @@ use mathlib.Core.Path.{sym, ◌∙◌}
 use native.Mathlib.Omega.{arith}
 use lib.ListN.{length}
 use Rattle.block.proofs.Laws.{not_directory, not_table, sound_is, sound_reach}
-use borrow.Author.Rules.{rules}
 use Rattle.block.proofs.sound.Goals as goal
 
 pub returns-then-dir-ne-DIRECTORY : goal.returns-then-dir-ne-DIRECTORY

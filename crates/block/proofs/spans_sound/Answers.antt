@@ -1,9 +1,7 @@
 use borrow.Author.Rules.{rules}
 use native.Mathlib.Omega.{arith}
-use Prim.Native.Nat.{◌≤◌, ◌-◌, ◌+◌}
-use mathlib.Core.Path.{◌≡◌}
-use Rattle.base.specs.Choice.{both}
-use Rattle.block.specs.Block.{start_of, end_of, span_sound, sound_from}
+use Prim.Native.Nat.{◌-◌, ◌+◌}
+use Rattle.block.specs.Block.{start_of, end_of, span_sound}
 use Rattle.base.proofs.Choice.{both_none, and_both, both_both}
 use Rattle.base.proofs.Every.{every_turn, every_done}
 use Rattle.block.proofs.spans_sound.Goals as goal

@@ -1,11 +1,7 @@
-use borrow.Author.Rules.{rules}
-use native.Mathlib.Omega.{arith}
-use Prim.Native.Nat.{◌≤◌, ◌-◌, ◌+◌}
+use Prim.Native.Nat.{◌≤◌, ◌-◌}
 use mathlib.Core.Path.{◌≡◌}
 use Rattle.base.specs.Choice.{both}
-use Rattle.block.specs.Block.{start_of, end_of, span_sound, sound_from}
-use Rattle.base.proofs.Choice.{both_none, and_both, both_both}
-use Rattle.base.proofs.Every.{every_turn, every_done}
+use Rattle.block.specs.Block.{sound_from}
 use Rattle.block.proofs.spans_sound.Given as goal
 
 abbrev pub invariant-loop-i : goal.invariant-loop-i

@@ -1,4 +1,3 @@
-use borrow.Author.Rules.{rules}
 use Rattle.choices.specs.Choices.{by_rise0}
 use Rattle.choices.proofs.by_rise0.Goals as goal
 

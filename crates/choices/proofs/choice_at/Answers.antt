@@ -1,6 +1,5 @@
 use mathlib.Core.Path.{ap}
 use borrow.Author.Tests.{lt-ltb, le-ltb}
-use borrow.Author.Rules.{rules}
 use Rattle.base.proofs.Choice.{took, left}
 use Rattle.choices.specs.declared.Choice.TheVariants.{Itself}
 use Rattle.choices.specs.Choices.{choice_at}

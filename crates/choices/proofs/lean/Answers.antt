@@ -1,4 +1,3 @@
-use borrow.Author.Rules.{rules}
 use Rattle.choices.specs.Choices.{lean}
 use Rattle.choices.proofs.lean.Goals as goal
 

@@ -1,6 +1,5 @@
 use mathlib.Core.Path.{refl}
 use borrow.Author.Tests.{eq-eqb, ne_eqb}
-use borrow.Author.Rules.{rules}
 use Rattle.base.proofs.Choice.{took, left}
 use Rattle.choices.specs.Choices.{lean_char}
 use Rattle.choices.proofs.lean_char.Goals as goal

@@ -1,5 +1,4 @@
 use mathlib.Core.Path.{ap, ◌∙◌}
-use borrow.Author.Rules.{rules}
 use Rattle.choices.specs.Choices.{by_rise, lean_digits}
 use Rattle.choices.proofs.lean_digits.Goals as goal
 

@@ -1,6 +1,5 @@
 use mathlib.Core.Path.{refl, sym, ◌∙◌}
 use native.Mathlib.Omega.{arith}
-use borrow.Author.Rules.{rules}
 use Rattle.base.specs.Memory.{part}
 use Rattle.base.proofs.Choice.{took, left}
 use Rattle.choices.specs.Choices.{lean_string}

@@ -1,5 +1,4 @@
 use Rattle.claimcalls.proofs.Laws.{claim_call_law}
-use borrow.Author.Rules.{rules}
 use Rattle.claimcalls.proofs.claim.Goals as goal
 
 pub returns : goal.returns

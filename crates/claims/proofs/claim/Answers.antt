@@ -1,15 +1,12 @@
 use native.Mathlib.Omega.{arith}
-use mathlib.Core.Path.{◌≡◌, sym, ◌∙◌}
+use mathlib.Core.Path.{sym, ◌∙◌}
 use mathlib.Core.Bool.{true}
-use borrow.Author.Tests.{not-true, not-false}
-use lib.ListN.{length}
 use Rattle.base.specs.Memory.{part}
-use Rattle.tables.specs.Tables.{entry_size, room}
+use Rattle.tables.specs.Tables.{room}
 use Rattle.kept.specs.Judgement.{text_counts, entry_text}
 use Rattle.kept.proofs.Laws.{text_counted, text_inside}
 use Rattle.claims.specs.Claims.{name_text}
 use Rattle.claims.proofs.Laws.{unsound, unread, outside, equal, unequal}
-use borrow.Author.Rules.{rules}
 use Rattle.claims.proofs.claim.Goals as goal
 
 pub returns-then-not-text_counts : goal.returns-then-not-text_counts

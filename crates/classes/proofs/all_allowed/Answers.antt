@@ -2,7 +2,7 @@ use borrow.Author.Rules.{rules}
 use native.Mathlib.Omega.{arith}
 use Prim.Native.Nat.{◌-◌}
 use mathlib.Core.Path.{refl, sym, ◌∙◌}
-use Rattle.classes.proofs.Laws.{Passed, barred_here, allowed_here, allowed_none}
+use Rattle.classes.proofs.Laws.{barred_here, allowed_here, allowed_none}
 use Rattle.classes.proofs.all_allowed.Goals as goal
 
 pub loop-i-init : goal.loop-i-init

@@ -1,4 +1,3 @@
-use borrow.Author.Rules.{rules}
 use Rattle.classes.proofs.Laws.{told_allowed}
 use Rattle.classes.proofs.allowed_in.Goals as goal
 

@@ -1,6 +1,5 @@
 use mathlib.Core.Path.{sym, ◌∙◌}
 use native.Mathlib.Omega.{arith}
-use borrow.Author.Rules.{rules}
 use Rattle.classes.proofs.Laws.{barred_tabled, allowed_tabled, tabled_allowed, barred_class}
 use Rattle.classes.proofs.class_in.Goals as goal
 

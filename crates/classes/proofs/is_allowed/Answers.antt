@@ -1,5 +1,4 @@
 use mathlib.Core.Path.{sym, ◌∙◌}
-use borrow.Author.Rules.{rules}
 use Rattle.base.specs.Choice.{pick}
 use Rattle.classes.specs.Classes.{is_allowed}
 use Rattle.classes.proofs.is_allowed.Goals as goal

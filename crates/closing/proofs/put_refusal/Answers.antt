@@ -4,7 +4,6 @@ use mathlib.Core.List.{◌++◌}
 use Rattle.digits.specs.Digits.{printed}
 use Rattle.texts.specs.Words.{refused_word, at_word, newline}
 use Rattle.closing.specs.Closing.{refusal_text}
-use borrow.Author.Rules.{rules}
 use Rattle.closing.proofs.put_refusal.Goals as goal
 
 pub put_labelled-next-requires : goal.put_labelled-next-requires

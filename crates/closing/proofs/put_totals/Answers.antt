@@ -4,7 +4,6 @@ use mathlib.Core.List.{◌++◌}
 use Rattle.digits.specs.Digits.{printed}
 use Rattle.texts.specs.Words.{names_word, bytes_word}
 use Rattle.closing.specs.Closing.{totals_text}
-use borrow.Author.Rules.{rules}
 use Rattle.closing.proofs.put_totals.Goals as goal
 
 pub put_number-next-requires : goal.put_number-next-requires

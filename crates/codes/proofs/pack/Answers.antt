@@ -1,6 +1,5 @@
 use mathlib.Core.Path.{refl}
 use Rattle.codes.specs.Codes.{packed}
-use borrow.Author.Rules.{rules}
 use Rattle.codes.proofs.pack.Goals as goal
 
 pub returns : goal.returns

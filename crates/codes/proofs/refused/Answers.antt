@@ -1,5 +1,4 @@
 use Rattle.codes.specs.Codes.{refusal_number}
-use borrow.Author.Rules.{rules}
 use Rattle.codes.proofs.refused.Goals as goal
 
 pub returns-in-Plain : goal.returns-in-Plain

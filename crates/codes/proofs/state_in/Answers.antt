@@ -1,5 +1,4 @@
 use Rattle.codes.specs.Codes.{state_in}
-use borrow.Author.Rules.{rules}
 use Rattle.codes.proofs.state_in.Goals as goal
 
 pub returns : goal.returns

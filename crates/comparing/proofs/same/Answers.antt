@@ -1,10 +1,8 @@
-use Prim.Native.Nat.{◌-◌, ◌≤◌}
-use mathlib.Core.Path.{◌≡◌, sym}
+use Prim.Native.Nat.{◌-◌}
+use mathlib.Core.Path.{sym}
 use native.Mathlib.Omega.{arith}
-use lib.ListN.{length, drop}
+use lib.ListN.{length}
 use borrow.Author.Rules.{rules}
-use Rattle.base.specs.Choice.{both}
-use Rattle.comparing.specs.Same.{same}
 use Rattle.comparing.proofs.Equal.{other_length, other_byte, same_none, same_turn, same_done}
 use Rattle.base.proofs.Choice.{both_none, and_both}
 use Rattle.comparing.proofs.same.Goals as goal

@@ -1,12 +1,8 @@
 use Prim.Native.Nat.{◌-◌, ◌≤◌}
-use mathlib.Core.Path.{◌≡◌, sym}
-use native.Mathlib.Omega.{arith}
-use lib.ListN.{length, drop}
-use borrow.Author.Rules.{rules}
+use mathlib.Core.Path.{◌≡◌}
+use lib.ListN.{drop}
 use Rattle.base.specs.Choice.{both}
 use Rattle.comparing.specs.Same.{same}
-use Rattle.comparing.proofs.Equal.{other_length, other_byte, same_none, same_turn, same_done}
-use Rattle.base.proofs.Choice.{both_none, and_both}
 use Rattle.comparing.proofs.same.Given as goal
 
 abbrev pub invariant-loop-i : goal.invariant-loop-i

@@ -1,14 +1,10 @@
-use borrow.Author.Rules.{rules}
-use native.Mathlib.Omega.{arith}
-use Prim.Native.Nat.{ℕ, ◌+◌, ◌-◌, ◌<◌, ◌≤◌}
-use mathlib.Core.Path.{◌≡◌, refl}
+use Prim.Native.Nat.{ℕ, ◌+◌, ◌<◌}
+use mathlib.Core.Path.{◌≡◌}
 use mathlib.Core.List.{List}
-use lib.ListN.{length, length-set}
+use lib.ListN.{length}
 use Rattle.base.specs.Memory.{written}
 use Rattle.digits.specs.Digits.{padded}
 use Rattle.digits.specs.Fractions.{whole, leading}
-use Rattle.digits.proofs.Fractions.{digits_more}
-use Rattle.digits.proofs.Steps.{digit_first, digits_done}
 use Rattle.digits.proofs.put_digits.Given as goal
 
 -- the digits of what is left, written behind those that stand, make the whole

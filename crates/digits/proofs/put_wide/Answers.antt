@@ -1,12 +1,8 @@
 use borrow.Author.Rules.{rules}
 use native.Mathlib.Omega.{arith}
-use Prim.Native.Nat.{ℕ, ◌+◌, ◌-◌, ◌≤◌}
+use Prim.Native.Nat.{ℕ, ◌+◌, ◌-◌}
 use mathlib.Core.Path.{◌≡◌, refl}
-use mathlib.Core.List.{List}
-use lib.ListN.{length, length-set}
-use Rattle.base.specs.Memory.{written}
-use Rattle.digits.specs.Digits.{padded}
-use Rattle.digits.specs.Fractions.{Begins}
+use lib.ListN.{length-set}
 use Rattle.digits.proofs.Fractions.{begins_more, begins_rest}
 use Rattle.digits.proofs.Steps.{digit_first, digits_done}
 use Rattle.digits.proofs.put_wide.Goals as goal

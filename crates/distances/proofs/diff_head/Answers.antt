@@ -1,6 +1,5 @@
 use Rattle.distances.proofs.Distances.{diff_near, diff_far, diff_short}
 use mathlib.Core.Path.{sym, ◌∙◌}
-use borrow.Author.Rules.{rules}
 use Rattle.distances.proofs.diff_head.Goals as goal
 
 pub returns-then-diff_fits : goal.returns-then-diff_fits

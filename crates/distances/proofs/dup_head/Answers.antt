@@ -1,6 +1,5 @@
 use Rattle.distances.proofs.Distances.{dup_near, dup_far, dup_short}
 use mathlib.Core.Path.{sym, ◌∙◌}
-use borrow.Author.Rules.{rules}
 use Rattle.distances.proofs.dup_head.Goals as goal
 
 pub returns-then-dup_fits : goal.returns-then-dup_fits

@@ -1,8 +1,6 @@
 use Rattle.dupdiff.proofs.Leaning.{back_known, leant_rows, diff_over, diff_outside}
 use mathlib.Core.List.{[]}
-use mathlib.Core.Logic.{⊎_elim}
 use mathlib.Core.Path.{◌≡◌, ◌∙◌}
-use borrow.Author.Rules.{rules}
 use Rattle.numbering.specs.Types.{rules_of}
 use Rattle.tables.specs.Tables.{keeping, in_rows}
 use Rattle.earlier.specs.Back.{back_of}

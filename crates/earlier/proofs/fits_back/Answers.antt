@@ -1,5 +1,4 @@
 use mathlib.Core.Path.{sym}
-use borrow.Author.Rules.{rules}
 use Rattle.earlier.proofs.fits_back.Goals as goal
 
 pub returns-then-known : goal.returns-then-known

@@ -1,7 +1,6 @@
 use Rattle.earlier.proofs.Leaning.{fits_none, fits_earlier, said_none, said_entry, back_said, back_outside}
 use mathlib.Core.Path.{sym, ◌∙◌}
 use native.Mathlib.Omega.{arith}
-use borrow.Author.Rules.{rules}
 use Rattle.earlier.proofs.leans.Goals as goal
 
 pub returns-then-d-eq0 : goal.returns-then-d-eq0

@@ -1,5 +1,4 @@
 use mathlib.Core.Path.{ap}
-use borrow.Author.Rules.{rules}
 use Rattle.tables.specs.declared.Entry.{Entry}
 use Rattle.earlier.specs.declared.Back.TheVariants.{Rows}
 use Rattle.earlier.proofs.rows_of.Goals as goal

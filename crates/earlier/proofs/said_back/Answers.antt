@@ -1,6 +1,5 @@
 use Rattle.earlier.proofs.Leaning.{said_none, said_entry}
 use native.Mathlib.Omega.{arith}
-use borrow.Author.Rules.{rules}
 use Rattle.earlier.proofs.said_back.Goals as goal
 
 pub returns-then-distance-eq0 : goal.returns-then-distance-eq0

@@ -3,7 +3,6 @@ use mathlib.Core.Path.{refl}
 use borrow.Author.Tests.{eq-eqb, ne_eqb}
 use Rattle.base.proofs.Choice.{took, left}
 use Rattle.ends.proofs.Ends.{kept_ends, empty_ends, judged_ends}
-use borrow.Author.Rules.{rules}
 use Rattle.ends.proofs.ended.Goals as goal
 
 pub move_on-requires : goal.move_on-requires

@@ -1,6 +1,5 @@
 use native.Mathlib.Omega.{arith}
 use Rattle.entries.proofs.Entries.{entered}
-use borrow.Author.Rules.{rules}
 use Rattle.entries.proofs.enter.Goals as goal
 
 pub returns : goal.returns

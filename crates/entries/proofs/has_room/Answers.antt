@@ -6,7 +6,6 @@ use mathlib.Core.Path.{refl}
 use Prim.Native.Nat.{◌+◌}
 use native.Mathlib.Omega.{arith}
 use lib.ListN.{length}
-use borrow.Author.Rules.{rules}
 use Rattle.entries.proofs.has_room.Goals as goal
 
 pub returns-then-text-state : goal.returns-then-text-state

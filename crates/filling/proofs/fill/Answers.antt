@@ -1,5 +1,4 @@
 use Rattle.numbering.specs.Types.{rules_of}
-use borrow.Author.Rules.{rules}
 use Rattle.filling.proofs.Filled.{first_room, places_room, last_room, filled}
 use Rattle.filling.proofs.fill.Goals as goal
 

@@ -4,7 +4,6 @@ use native.Mathlib.Nat.{div-add-mod}
 use native.Mathlib.Omega.{arith}
 use lib.ListN.{length}
 use Rattle.numbering.specs.Types.{rules_of}
-use borrow.Author.Rules.{rules}
 use Rattle.filling.proofs.Filled.{ample, total_room, counted_out}
 use Rattle.filling.proofs.fits.Goals as goal
 

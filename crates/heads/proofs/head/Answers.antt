@@ -1,7 +1,6 @@
 use Rattle.heads.proofs.Heads.{head_dup, head_diff, head_other, head_short}
 use Rattle.sources.specs.Source.{source}
 use mathlib.Core.Path.{sym, ◌∙◌}
-use borrow.Author.Rules.{rules}
 use Rattle.numbering.specs.Types.{rules_of}
 use Rattle.heads.proofs.head.Goals as goal
 

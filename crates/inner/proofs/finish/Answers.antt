@@ -1,6 +1,5 @@
 use Rattle.inner.proofs.Outcomes.{finish_done, finish_short}
 use mathlib.Core.Path.{sym, ◌∙◌}
-use borrow.Author.Rules.{rules}
 use Rattle.inner.proofs.finish.Goals as goal
 
 pub returns-then-at_end : goal.returns-then-at_end

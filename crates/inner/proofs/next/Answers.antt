@@ -3,7 +3,6 @@ use Rattle.heads.proofs.Heads.{head_passable, dup_told, diff_told}
 use Rattle.sources.specs.Source.{source}
 use native.Mathlib.Omega.{arith}
 use mathlib.Core.Path.{sym, ◌∙◌}
-use borrow.Author.Rules.{rules}
 use Rattle.numbering.specs.Types.{rules_of}
 use Rattle.tables.specs.Tables.{in_rows}
 use Rattle.inner.proofs.next.Goals as goal

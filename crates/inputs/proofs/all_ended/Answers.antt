@@ -1,6 +1,5 @@
 use mathlib.Core.Path.{refl}
 use borrow.Author.Tests.{eq-eqb, ne_eqb}
-use borrow.Author.Rules.{rules}
 use Rattle.base.proofs.Choice.{took, left}
 use Rattle.inputs.specs.Inputs.{ended}
 use Rattle.inputs.proofs.all_ended.Goals as goal

@@ -1,13 +1,9 @@
 use Prim.Native.Nat.{◌-◌, ◌≤◌, ◌<◌}
 use mathlib.Core.Bool.{true}
-use mathlib.Core.Path.{◌≡◌, sym, ◌∙◌}
-use native.Mathlib.Omega.{arith}
+use mathlib.Core.Path.{◌≡◌}
 use lib.ListN.{length}
-use borrow.Author.Rules.{rules}
 use Rattle.base.specs.Memory.{part}
 use Rattle.classes.specs.Classes.{all_allowed}
-use Rattle.classes.proofs.Laws.{allowed_none, allowed_more}
-use Rattle.inputs.proofs.Laws.{not_last, allowed_no_ten}
 use Rattle.inputs.proofs.allowed_end.Given as goal
 
 abbrev pub invariant-loop-i : goal.invariant-loop-i

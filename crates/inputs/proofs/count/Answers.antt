@@ -1,10 +1,10 @@
-use Prim.Native.Nat.{◌+◌, ◌-◌, ◌≤◌}
+use Prim.Native.Nat.{◌-◌}
 use mathlib.Core.List.{[]}
-use mathlib.Core.Path.{◌≡◌, ap}
+use mathlib.Core.Path.{ap}
 use native.Mathlib.Omega.{arith}
-use lib.ListN.{length, drop}
+use lib.ListN.{length}
 use borrow.Author.Rules.{rules}
-use Rattle.inputs.specs.Inputs.{names_after, names_of}
+use Rattle.inputs.specs.Inputs.{names_of}
 use Rattle.inputs.proofs.Laws.{names_out}
 use Rattle.inputs.proofs.count.Goals as goal
 

@@ -1,11 +1,8 @@
 use Prim.Native.Nat.{◌+◌, ◌-◌, ◌≤◌}
 use mathlib.Core.List.{[]}
-use mathlib.Core.Path.{◌≡◌, ap}
-use native.Mathlib.Omega.{arith}
+use mathlib.Core.Path.{◌≡◌}
 use lib.ListN.{length, drop}
-use borrow.Author.Rules.{rules}
 use Rattle.inputs.specs.Inputs.{names_after, names_of}
-use Rattle.inputs.proofs.Laws.{names_out}
 use Rattle.inputs.proofs.count.Given as goal
 
 abbrev pub invariant-loop-i : goal.invariant-loop-i

@@ -1,11 +1,8 @@
-use Prim.Native.Nat.{◌+◌, ◌-◌, ◌≤◌, ◌<◌}
-use mathlib.Core.Logic.{⊎_elim}
-use mathlib.Core.List.{[]}
+use Prim.Native.Nat.{◌-◌, ◌<◌}
 use mathlib.Core.Path.{◌≡◌}
 use native.Mathlib.Omega.{arith}
-use lib.ListN.{length, drop}
+use lib.ListN.{length}
 use borrow.Author.Rules.{rules}
-use Rattle.inputs.specs.Inputs.{names_after}
 use Rattle.inputs.proofs.Laws.{count_here, count_next}
 use Rattle.inputs.proofs.ends_in.Goals as goal
 use Rattle.inputs.proofs.ends_in.Goals.{then-input-i-eq10, else-input-i-eq10}

@@ -1,12 +1,8 @@
-use Prim.Native.Nat.{◌+◌, ◌-◌, ◌≤◌, ◌<◌}
-use mathlib.Core.Logic.{⊎_elim}
+use Prim.Native.Nat.{◌+◌, ◌-◌, ◌≤◌}
 use mathlib.Core.List.{[]}
 use mathlib.Core.Path.{◌≡◌}
-use native.Mathlib.Omega.{arith}
 use lib.ListN.{length, drop}
-use borrow.Author.Rules.{rules}
 use Rattle.inputs.specs.Inputs.{names_after}
-use Rattle.inputs.proofs.Laws.{count_here, count_next}
 use Rattle.inputs.proofs.ends_in.Given as goal
 
 abbrev pub invariant-loop-i : goal.invariant-loop-i

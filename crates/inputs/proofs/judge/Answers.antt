@@ -1,10 +1,10 @@
-use Prim.Native.Nat.{◌+◌, ◌-◌, ◌≤◌}
+use Prim.Native.Nat.{◌-◌}
 use mathlib.Core.List.{[]}
-use mathlib.Core.Path.{◌≡◌, refl, sym, ap, ◌∙◌}
+use mathlib.Core.Path.{refl, sym, ap, ◌∙◌}
 use native.Mathlib.Omega.{arith}
-use lib.ListN.{length, drop}
+use lib.ListN.{length}
 use borrow.Author.Rules.{rules}
-use Rattle.inputs.specs.Inputs.{names_after, names_of, NameAt, judged_from}
+use Rattle.inputs.specs.Inputs.{names_of}
 use Rattle.inputs.proofs.Laws.{judged_bad, judged_next, judged_none, names_out, good_short, good_long, good_by, allowed_name, judged_barred}
 use Rattle.inputs.proofs.judge.Goals as goal
 

@@ -1,11 +1,8 @@
 use Prim.Native.Nat.{◌+◌, ◌-◌, ◌≤◌}
 use mathlib.Core.List.{[]}
-use mathlib.Core.Path.{◌≡◌, refl, sym, ap, ◌∙◌}
-use native.Mathlib.Omega.{arith}
+use mathlib.Core.Path.{◌≡◌}
 use lib.ListN.{length, drop}
-use borrow.Author.Rules.{rules}
-use Rattle.inputs.specs.Inputs.{names_after, names_of, NameAt, judged_from}
-use Rattle.inputs.proofs.Laws.{judged_bad, judged_next, judged_none, names_out, good_short, good_long, good_by, allowed_name, judged_barred}
+use Rattle.inputs.specs.Inputs.{names_after, names_of, judged_from}
 use Rattle.inputs.proofs.judge.Given as goal
 
 abbrev pub invariant-loop-start : goal.invariant-loop-start

@@ -1,7 +1,5 @@
 use Prim.Native.Nat.{◌-◌}
-use lib.ListN.{length}
-use borrow.Author.Rules.{rules}
-use Rattle.inputs.proofs.Laws.{InName, name_starts, name_more, name_ends, not_last}
+use Rattle.inputs.proofs.Laws.{name_starts, name_more, name_ends, not_last}
 use Rattle.inputs.proofs.name_end.Goals as goal
 
 pub loop-i-init : goal.loop-i-init

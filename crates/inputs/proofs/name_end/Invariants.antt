@@ -1,7 +1,6 @@
 use Prim.Native.Nat.{◌-◌}
 use lib.ListN.{length}
-use borrow.Author.Rules.{rules}
-use Rattle.inputs.proofs.Laws.{InName, name_starts, name_more, name_ends, not_last}
+use Rattle.inputs.proofs.Laws.{InName}
 use Rattle.inputs.proofs.name_end.Given as goal
 
 abbrev pub invariant-loop-i : goal.invariant-loop-i

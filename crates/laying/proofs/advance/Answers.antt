@@ -1,5 +1,4 @@
 use mathlib.Core.Path.{refl, sym, ◌∙◌}
-use borrow.Author.Rules.{rules}
 use Rattle.base.proofs.Choice.{took, left}
 use Rattle.block.specs.Block.{end_of}
 use Rattle.laying.specs.Passes.{moved}

@@ -1,4 +1,3 @@
-use borrow.Author.Rules.{rules}
 use Rattle.laying.specs.Passes.{counts}
 use Rattle.laying.proofs.counts_in.Goals as goal
 

@@ -1,4 +1,3 @@
-use borrow.Author.Rules.{rules}
 use Rattle.laying.specs.Passes.{fills}
 use Rattle.laying.proofs.fills_in.Goals as goal
 

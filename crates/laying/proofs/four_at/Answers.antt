@@ -1,6 +1,5 @@
 use native.Mathlib.Omega.{arith}
 use lib.ListN.{length-set}
-use borrow.Author.Rules.{rules}
 use Rattle.base.proofs.Memory.{four_written}
 use Rattle.spans.specs.Spans.{four_bytes}
 use Rattle.laying.proofs.four_at.Goals as goal

@@ -1,8 +1,8 @@
-use Prim.Native.Nat.{ℕ, ◌+◌, ◌-◌, ◌*◌, ◌≤◌}
+use Prim.Native.Nat.{ℕ, ◌+◌, ◌-◌, ◌*◌}
 use mathlib.Core.List.{List}
 use mathlib.Core.Path.{◌≡◌, refl, sym, ap, ◌∙◌}
 use native.Mathlib.Omega.{arith}
-use lib.ListN.{length, set, get_or, length-set}
+use lib.ListN.{set, get_or, length-set}
 use borrow.Author.Rules.{rules}
 use Rattle.block.specs.Block.{end_of}
 use Rattle.laying.specs.Passes.{offset_in}

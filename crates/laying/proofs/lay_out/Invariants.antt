@@ -1,12 +1,8 @@
-use Prim.Native.Nat.{ℕ, ◌+◌, ◌-◌, ◌*◌, ◌≤◌}
-use mathlib.Core.List.{List}
-use mathlib.Core.Path.{◌≡◌, refl, sym, ap, ◌∙◌}
-use native.Mathlib.Omega.{arith}
-use lib.ListN.{length, set, get_or, length-set}
-use borrow.Author.Rules.{rules}
-use Rattle.block.specs.Block.{end_of}
+use Prim.Native.Nat.{◌-◌, ◌≤◌}
+use mathlib.Core.Path.{◌≡◌}
+use lib.ListN.{length}
 use Rattle.laying.specs.Passes.{offset_in}
-use Rattle.laying.proofs.Tables.{laid, laid_none, laid_read, laid_more, laid_all, offset_more, offset_grows}
+use Rattle.laying.proofs.Tables.{laid}
 use Rattle.laying.proofs.lay_out.Given as goal
 
 abbrev pub invariant-loop-i : goal.invariant-loop-i

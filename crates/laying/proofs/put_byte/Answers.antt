@@ -1,6 +1,5 @@
 use Prim.Native.Nat.{◌+◌, ◌*◌}
 use native.Mathlib.Omega.{arith}
-use borrow.Author.Rules.{rules}
 use Rattle.spans.specs.Spans.{four_bytes}
 use Rattle.block.specs.Block.{end_of}
 use Rattle.laying.specs.Passes.{step_of}

@@ -1,6 +1,5 @@
 use Prim.Native.Nat.{◌+◌, ◌*◌}
 use native.Mathlib.Omega.{arith}
-use borrow.Author.Rules.{rules}
 use Rattle.block.specs.Block.{end_of}
 use Rattle.laying.specs.Passes.{step_of}
 use Rattle.laying.proofs.Writes.{length_text_law}

@@ -1,6 +1,5 @@
 use mathlib.Core.Path.{refl, sym, ◌∙◌}
 use Rattle.base.proofs.Choice.{took, left}
-use borrow.Author.Rules.{rules}
 use Rattle.leaves.proofs.leaf_fits.Goals as goal
 
 pub returns-then-fits_width : goal.returns-then-fits_width

@@ -2,7 +2,6 @@ use mathlib.Core.Path.{refl, sym, ap, ◌∙◌}
 use Rattle.base.proofs.Choice.{took, left}
 use borrow.Author.Tests.{le-leb, lt-leb}
 use Rattle.leaves.specs.Leaves.{four_left}
-use borrow.Author.Rules.{rules}
 use Rattle.leaves.proofs.leaf_four.Goals as goal
 
 pub returns-then-bytes-end : goal.returns-then-bytes-end

@@ -1,7 +1,6 @@
 use mathlib.Core.Path.{refl, sym, ◌∙◌}
 use Rattle.base.proofs.Choice.{took, left}
 use Rattle.block.proofs.Laws.{verdict_unsound, verdict_outside, verdict_inside}
-use borrow.Author.Rules.{rules}
 use Rattle.leaves.proofs.leaf_judge.Goals as goal
 
 pub returns-in-Unsound : goal.returns-in-Unsound

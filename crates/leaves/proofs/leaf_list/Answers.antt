@@ -3,7 +3,6 @@ use lib.ListN.{length}
 use mathlib.Core.Path.{refl}
 use native.Mathlib.Omega.{arith}
 use borrow.Author.Tests.{le-leb, lt-leb}
-use borrow.Author.Rules.{rules}
 use Rattle.listed.specs.Listing.{listed_of}
 use Rattle.listed.proofs.Bounds.{listed_short}
 use Rattle.leaves.proofs.Laws.{stands, may_not}

@@ -5,8 +5,6 @@ use borrow.Author.Tests.{leb-true}
 use Rattle.digits.proofs.Laws.{length_printed}
 use Rattle.leaves.proofs.Laws.{stands, no_room}
 use mathlib.Core.Path.{refl, sym, ◌∙◌}
-use Rattle.base.proofs.Choice.{left}
-use borrow.Author.Rules.{rules}
 use Rattle.leaves.proofs.leaf_print.Goals as goal
 
 pub print-requires : goal.print-requires

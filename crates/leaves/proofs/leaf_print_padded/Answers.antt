@@ -1,11 +1,10 @@
 use Prim.Native.Nat.{◌+◌, ◌≤◌}
 use lib.ListN.{length}
-use borrow.Author.Tests.{leb-true, le-leb, lt-leb, not-true, not-false}
-use Rattle.base.proofs.Choice.{both_of, both_left, both_right, left}
+use borrow.Author.Tests.{leb-true, le-leb, lt-leb}
+use Rattle.base.proofs.Choice.{both_of, both_left, both_right}
 use Rattle.digits.proofs.Laws.{length_padded}
 use Rattle.leaves.proofs.Laws.{stands, no_room, may_not}
 use mathlib.Core.Path.{sym, ◌∙◌}
-use borrow.Author.Rules.{rules}
 use Rattle.leaves.proofs.leaf_print_padded.Goals as goal
 
 pub returns-then-width-gt254 : goal.returns-then-width-gt254

@@ -5,7 +5,6 @@ use Rattle.lines.specs.Lines.{tokens_text}
 use Rattle.choices.specs.Choices.{choices_of}
 use Rattle.digits.specs.Digits.{printed}
 use mathlib.Core.List.{◌++◌}
-use borrow.Author.Rules.{rules}
 use Rattle.lines.proofs.put_diff.Goals as goal
 
 pub put_labelled-next-requires : goal.put_labelled-next-requires

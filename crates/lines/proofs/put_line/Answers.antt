@@ -4,7 +4,6 @@ use Rattle.texts.specs.Words.{newline}
 use Rattle.lines.specs.Lines.{name_text, line_of}
 use Rattle.digits.specs.Digits.{printed}
 use mathlib.Core.List.{◌++◌}
-use borrow.Author.Rules.{rules}
 use Rattle.lines.proofs.put_line.Goals as goal
 
 pub put_number-next-requires : goal.put_number-next-requires

@@ -1,12 +1,12 @@
 use Rattle.inputs.proofs.Standing.{names_count}
-use Rattle.lines.proofs.Walks.{Naming, names_start, names_room, names_more, names_end}
+use Rattle.lines.proofs.Walks.{names_start, names_room, names_more, names_end}
 use Rattle.base.specs.Memory.{part}
 use Rattle.pages.specs.Page.{page}
 use native.Mathlib.Nat.{le_of_lt}
 use native.Mathlib.Omega.{arith}
 use lib.ListN.{length}
 use Prim.Native.Nat.{◌-◌, ◌<◌}
-use mathlib.Core.Path.{◌≡◌, refl, ◌∙◌}
+use mathlib.Core.Path.{refl, ◌∙◌}
 use Rattle.lines.proofs.put_lines.Goals as goal
 
 pub loop-start-init : goal.loop-start-init
@@ -45,7 +45,7 @@ put_line-at-requires c =
     let l = c.loop-start in
     let a = c.args in record {
       table_value = c.requires.table_value;
-      has_room = names_room a.input.now (page a.out.now 0) (page l.new l.at) l.n l.from l.to l.start l.invariant.1 _ c.name_end-end.ensures;
+      has_room = names_room a.input.now (page a.out.now 0) (page l.out l.at) l.n l.from l.to l.start l.invariant.1 _ c.name_end-end.ensures;
     }
 
 pub overflow_add-start : goal.overflow_add-start
@@ -71,7 +71,7 @@ unfolding part
 loop-start-preserved c =
     let l = c.loop-start in
     let a = c.args in
-    (c.put_line-at.auto.out ∙ l.invariant.0, names_more a.input.now (page a.out.now 0) (page l.new l.at) l.n l.from l.to l.start l.invariant.1 _ c.name_end-end.ensures c.put_line-at.ensures)
+    (c.put_line-at.auto.out ∙ l.invariant.0, names_more a.input.now (page a.out.now 0) (page l.out l.at) l.n l.from l.to l.start l.invariant.1 _ c.name_end-end.ensures c.put_line-at.ensures)
 
 pub shape_of-out : goal.shape_of-out
 shape_of-out c = c.loop-start.invariant.0
@@ -80,4 +80,4 @@ pub returns : goal.returns
 returns c =
     let l = c.loop-start in
     let a = c.args in
-    names_end a.input.now (page a.out.now 0) (page l.new l.at) l.n l.from l.to l.start l.invariant.1 c.loop-start-test.false
+    names_end a.input.now (page a.out.now 0) (page l.out l.at) l.n l.from l.to l.start l.invariant.1 c.loop-start-test.false

@@ -1,12 +1,8 @@
-use Rattle.inputs.proofs.Standing.{names_count}
-use Rattle.lines.proofs.Walks.{Naming, names_start, names_room, names_more, names_end}
-use Rattle.base.specs.Memory.{part}
+use Rattle.lines.proofs.Walks.{Naming}
 use Rattle.pages.specs.Page.{page}
-use native.Mathlib.Nat.{le_of_lt}
-use native.Mathlib.Omega.{arith}
 use lib.ListN.{length}
-use Prim.Native.Nat.{◌-◌, ◌<◌}
-use mathlib.Core.Path.{◌≡◌, refl, ◌∙◌}
+use Prim.Native.Nat.{◌-◌}
+use mathlib.Core.Path.{◌≡◌}
 use Rattle.lines.proofs.put_lines.Given as goal
 
 abbrev pub invariant-loop-start : goal.invariant-loop-start

@@ -7,7 +7,6 @@ use Rattle.digits.specs.Digits.{printed}
 use Prim.Native.Nat.{ℕ}
 use mathlib.Core.List.{List, ◌++◌}
 use mathlib.Core.Path.{sym, ap, ◌∙◌, subst}
-use borrow.Author.Rules.{rules}
 use Rattle.lines.proofs.put_name.Goals as goal
 
 pub put_labelled-requires : goal.put_labelled-requires

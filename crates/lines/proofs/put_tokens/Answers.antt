@@ -1,4 +1,4 @@
-use Rattle.lines.proofs.Walks.{Walking, walk_start, walk_room, walk_more, walk_last, walk_end}
+use Rattle.lines.proofs.Walks.{walk_start, walk_room, walk_more, walk_last, walk_end}
 use Rattle.splitting.proofs.Runs.{cut_range}
 use Rattle.splitting.proofs.Cuts.{cut_end}
 use Rattle.choices.proofs.Choices.{choice_within}
@@ -6,7 +6,7 @@ use Rattle.pages.specs.Page.{page}
 use native.Mathlib.Omega.{arith}
 use lib.ListN.{length}
 use Prim.Native.Nat.{◌-◌, ◌≤◌, ◌<◌}
-use mathlib.Core.Path.{◌≡◌, refl, ◌∙◌}
+use mathlib.Core.Path.{refl, ◌∙◌}
 use Rattle.lines.proofs.put_tokens.Goals as goal
 
 pub loop-a-init : goal.loop-a-init
@@ -35,7 +35,7 @@ put_choice-next-requires c =
     let e = c.choice_at-c.ensures in
     let h = c.loop-a-test.true in record {
       choice_within = rw e (choice_within a.before.now a.name.now l.p l.a l.b h);
-      has_room = walk_room a.before.now a.name.now (page a.out.now a.at) (page l.new l.next) l.p l.a l.b l.invariant.1 h _ e;
+      has_room = walk_room a.before.now a.name.now (page a.out.now a.at) (page l.out l.next) l.p l.a l.b l.invariant.1 h _ e;
     }
 
 pub overflow_add-p : goal.overflow_add-p
@@ -56,14 +56,14 @@ pub loop-a-preserved : goal.loop-a-preserved
 loop-a-preserved c =
     let l = c.loop-a in
     let a = c.args in
-    (c.put_choice-next.auto.out ∙ l.invariant.0, walk_more a.before.now a.name.now (page a.out.now a.at) (page l.new l.next) l.p l.a l.b l.invariant.1 c.loop-a-test.true _ c.choice_at-c.ensures c.put_choice-next.ensures (cut_end a.name.now l.p l.a c.cut_at-e.ensures) (cut_end a.before.now l.p l.b c.cut_at-f.ensures))
+    (c.put_choice-next.auto.out ∙ l.invariant.0, walk_more a.before.now a.name.now (page a.out.now a.at) (page l.out l.next) l.p l.a l.b l.invariant.1 c.loop-a-test.true _ c.choice_at-c.ensures c.put_choice-next.ensures (cut_end a.name.now l.p l.a c.cut_at-e.ensures) (cut_end a.before.now l.p l.b c.cut_at-f.ensures))
 
 pub put_choice-requires : goal.put_choice-requires
 put_choice-requires c =
     let l = c.loop-a in
     let a = c.args in record {
       choice_within = tt;
-      has_room = walk_last a.before.now a.name.now (page a.out.now a.at) (page l.new l.next) l.p l.a l.b l.invariant.1 c.loop-a-test.false;
+      has_room = walk_last a.before.now a.name.now (page a.out.now a.at) (page l.out l.next) l.p l.a l.b l.invariant.1 c.loop-a-test.false;
     }
 
 pub shape_of-out : goal.shape_of-out
@@ -74,4 +74,4 @@ pub returns : goal.returns
 returns c =
     let l = c.loop-a in
     let a = c.args in
-    walk_end a.before.now a.name.now (page a.out.now a.at) (page l.new l.next) l.p l.a l.b l.invariant.1 c.loop-a-test.false c.put_choice.ensures
+    walk_end a.before.now a.name.now (page a.out.now a.at) (page l.out l.next) l.p l.a l.b l.invariant.1 c.loop-a-test.false c.put_choice.ensures

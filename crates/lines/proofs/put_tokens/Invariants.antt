@@ -1,12 +1,8 @@
-use Rattle.lines.proofs.Walks.{Walking, walk_start, walk_room, walk_more, walk_last, walk_end}
-use Rattle.splitting.proofs.Runs.{cut_range}
-use Rattle.splitting.proofs.Cuts.{cut_end}
-use Rattle.choices.proofs.Choices.{choice_within}
+use Rattle.lines.proofs.Walks.{Walking}
 use Rattle.pages.specs.Page.{page}
-use native.Mathlib.Omega.{arith}
 use lib.ListN.{length}
-use Prim.Native.Nat.{◌-◌, ◌≤◌, ◌<◌}
-use mathlib.Core.Path.{◌≡◌, refl, ◌∙◌}
+use Prim.Native.Nat.{◌-◌}
+use mathlib.Core.Path.{◌≡◌}
 use Rattle.lines.proofs.put_tokens.Given as goal
 
 abbrev pub invariant-loop-a : goal.invariant-loop-a

@@ -3,7 +3,6 @@ use Rattle.pages.proofs.Pages.{said_out, said_at}
 use Rattle.pages.specs.Page.{page}
 use Rattle.listed.specs.Listing.{listed_of}
 use native.Mathlib.Omega.{arith}
-use borrow.Author.Rules.{rules}
 use Rattle.listed.proofs.list.Goals as goal
 
 pub put_listed-requires : goal.put_listed-requires

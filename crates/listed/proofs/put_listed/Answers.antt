@@ -3,7 +3,6 @@ use Rattle.listed.proofs.Answers.{few_names, listed_long, listed_unended, listed
 use borrow.Author.Tests.{not-true, not-false}
 use Rattle.pages.specs.Page.{page}
 use mathlib.Core.Path.{sym, ◌∙◌}
-use borrow.Author.Rules.{rules}
 use Rattle.listed.proofs.put_listed.Goals as goal
 
 pub put_refusal-requires : goal.put_refusal-requires

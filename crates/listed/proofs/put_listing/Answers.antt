@@ -1,6 +1,5 @@
 use Rattle.listed.proofs.Answers.{lines_room, totals_room, all_said}
 use Rattle.pages.specs.Page.{page}
-use borrow.Author.Rules.{rules}
 use Rattle.listed.proofs.put_listing.Goals as goal
 
 pub put_lines-next-requires : goal.put_lines-next-requires

@@ -2,7 +2,6 @@ use Rattle.numbering.specs.Types.{draft_plain, rules_of}
 use Rattle.filling.proofs.Filled.{total_room, total_is}
 use Rattle.listed.proofs.Answers.{ready}
 use mathlib.Core.Path.{refl}
-use borrow.Author.Rules.{rules}
 use Rattle.listed.proofs.total.Goals as goal
 
 pub put_names-requires : goal.put_names-requires

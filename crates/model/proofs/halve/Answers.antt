@@ -1,9 +1,9 @@
-use Prim.Native.Nat.{◌+◌, ◌-◌, ◌≤◌, ◌<◌}
+use Prim.Native.Nat.{◌-◌, ◌<◌}
 use mathlib.Core.Path.{◌≡◌, ◌∙◌}
 use native.Mathlib.Omega.{arith}
-use lib.ListN.{length, drop, length-set}
-use lib.Seq.{paste, paste-zero}
-use Rattle.model.specs.Model.{halves, sum}
+use lib.ListN.{length, length-set}
+use lib.Seq.{paste-zero}
+use Rattle.model.specs.Model.{halves}
 use Rattle.base.proofs.Fills.{fill_done}
 use Rattle.model.proofs.Laws.{halves_length, halves_least, halves_done, halve_turn, halve_sum}
 use borrow.Author.Rules.{rules}

@@ -1,12 +1,8 @@
-use Prim.Native.Nat.{◌+◌, ◌-◌, ◌≤◌, ◌<◌}
-use mathlib.Core.Path.{◌≡◌, ◌∙◌}
-use native.Mathlib.Omega.{arith}
-use lib.ListN.{length, drop, length-set}
-use lib.Seq.{paste, paste-zero}
+use Prim.Native.Nat.{◌+◌, ◌-◌, ◌≤◌}
+use mathlib.Core.Path.{◌≡◌}
+use lib.ListN.{length, drop}
+use lib.Seq.{paste}
 use Rattle.model.specs.Model.{halves, sum}
-use Rattle.base.proofs.Fills.{fill_done}
-use Rattle.model.proofs.Laws.{halves_length, halves_least, halves_done, halve_turn, halve_sum}
-use borrow.Author.Rules.{rules}
 use Rattle.model.proofs.halve.Given as goal
 
 abbrev pub invariant-loop-i : goal.invariant-loop-i

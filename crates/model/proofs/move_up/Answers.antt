@@ -2,7 +2,6 @@ use Prim.Native.Nat.{◌-◌}
 use native.Mathlib.Omega.{arith}
 use lib.ListN.{get_or, length-set}
 use Rattle.model.proofs.Laws.{stays_first, stays_below, moves_up}
-use borrow.Author.Rules.{rules}
 use Rattle.model.proofs.move_up.Goals as goal
 
 pub returns-then-at-eq0 : goal.returns-then-at-eq0

@@ -1,8 +1,6 @@
-use Prim.Native.Nat.{◌+◌, ◌-◌, ◌≤◌}
-use mathlib.Core.Path.{◌≡◌, ◌∙◌}
+use Prim.Native.Nat.{◌-◌}
+use mathlib.Core.Path.{◌∙◌}
 use native.Mathlib.Omega.{arith}
-use lib.ListN.{length, drop}
-use Rattle.model.specs.Model.{place_of}
 use Rattle.model.proofs.Laws.{place_found, place_turn, place_none}
 use borrow.Author.Rules.{rules}
 use Rattle.model.proofs.place_of.Goals as goal

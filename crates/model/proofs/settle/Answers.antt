@@ -3,7 +3,6 @@ use native.Mathlib.Omega.{arith}
 use borrow.Author.Tests.{lt-ltb, le-ltb}
 use Rattle.base.proofs.Choice.{pick_true, pick_false}
 use Rattle.model.specs.Model.{model, most, halved, settled}
-use borrow.Author.Rules.{rules}
 use Rattle.model.proofs.settle.Goals as goal
 
 pub returns-then-total-le-MOST : goal.returns-then-total-le-MOST

@@ -1,14 +1,8 @@
-use Prim.Native.Nat.{ℕ, ◌-◌, ◌≤◌}
-use mathlib.Core.Path.{◌≡◌, sym, ap, ap₂, ◌∙◌}
-use mathlib.Core.List.{List}
-use native.Mathlib.Omega.{arith}
-use lib.ListN.{length, set, replicate, length-set, length-replicate, get_or-replicate}
-use lib.Seq.{paste, paste-zero}
+use Prim.Native.Nat.{◌-◌, ◌≤◌}
+use mathlib.Core.Path.{◌≡◌}
+use lib.ListN.{length, replicate}
+use lib.Seq.{paste}
 use Rattle.base.specs.Every.{numbers}
-use Rattle.model.specs.Model.{model, started}
-use Rattle.base.proofs.Every.{numbers_length, numbers_at}
-use Rattle.base.proofs.Fills.{fill_turn, fill_done}
-use borrow.Author.Rules.{rules}
 use Rattle.model.proofs.start.Given as goal
 
 abbrev pub invariant-loop-i : goal.invariant-loop-i

@@ -3,7 +3,6 @@ use Prim.Native.Nat.{◌+◌}
 use lib.ListN.{get_or, length-set}
 use Rattle.model.specs.Model.{growth, grown, step_at}
 use Rattle.model.proofs.Sums.{sum_set, sum_at}
-use borrow.Author.Rules.{rules}
 use Rattle.model.proofs.step.Goals as goal
 
 pub overflow_add-frequencies : goal.overflow_add-frequencies

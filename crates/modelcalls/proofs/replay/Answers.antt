@@ -3,7 +3,6 @@ use Rattle.model.specs.Model.{model}
 use Rattle.replays.specs.Replays.{replaying, replay_of}
 use Rattle.modelcalls.specs.Calls.{replayed_number}
 use Rattle.modelcalls.proofs.Laws.{replayed_call}
-use borrow.Author.Rules.{rules}
 use Rattle.modelcalls.proofs.replay.Goals as goal
 
 pub returns-in-Whole : goal.returns-in-Whole

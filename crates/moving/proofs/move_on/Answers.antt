@@ -1,7 +1,6 @@
 use native.Mathlib.Omega.{arith}
 use Rattle.block.proofs.Laws.{span_below}
 use Rattle.moving.proofs.Moves.{move_fits, moved_on}
-use borrow.Author.Rules.{rules}
 use Rattle.moving.proofs.move_on.Goals as goal
 
 pub offset_bounds-cursors-i : goal.offset_bounds-cursors-i

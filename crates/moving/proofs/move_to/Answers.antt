@@ -1,6 +1,5 @@
 use native.Mathlib.Omega.{arith}
 use Rattle.block.proofs.Laws.{span_below}
-use borrow.Author.Rules.{rules}
 use Rattle.moving.proofs.move_to.Goals as goal
 
 pub offset_bounds-cursors-i : goal.offset_bounds-cursors-i

@@ -1,6 +1,5 @@
 use mathlib.Core.Path.{refl}
 use Rattle.moving.specs.Moves.{value_past}
-use borrow.Author.Rules.{rules}
 use Rattle.moving.proofs.move_value.Goals as goal
 
 pub move_padded-requires : goal.move_padded-requires

@@ -1,6 +1,5 @@
 use mathlib.Core.Path.{sym, ap, ◌∙◌, subst}
 use native.Mathlib.Omega.{arith}
-use borrow.Author.Rules.{rules}
 use Rattle.block.specs.Streams.{diff_stream}
 use Rattle.numbering.specs.Types.{numbers_of, rules_of}
 use Rattle.laying.proofs.Passes.{run_append, roomy_append}

@@ -1,5 +1,4 @@
 use mathlib.Core.Path.{sym, subst}
-use borrow.Author.Rules.{rules}
 use Rattle.block.specs.Block.{span_of}
 use Rattle.laying.specs.Passes.{World, world, Room}
 use Rattle.nameputs.proofs.Laws.{head_room, head_ran}

@@ -2,7 +2,6 @@ use Prim.Native.Nat.{ℕ}
 use mathlib.Core.List.{List, ◌++◌}
 use mathlib.Core.Path.{sym, ap, ◌∙◌, subst}
 use native.Mathlib.Omega.{arith}
-use borrow.Author.Rules.{rules}
 use Rattle.block.specs.Streams.{diff_stream}
 use Rattle.numbering.specs.Types.{numbers_of, rules_of}
 use Rattle.choices.specs.Choices.{choices_of}

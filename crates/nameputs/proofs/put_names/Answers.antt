@@ -1,12 +1,11 @@
 use Prim.Native.Nat.{◌-◌, ◌<◌}
-use mathlib.Core.Path.{◌≡◌, refl, ◌∙◌}
+use mathlib.Core.Path.{refl, ◌∙◌}
 use native.Mathlib.Nat.{le_of_lt}
 use native.Mathlib.Omega.{arith}
 use lib.ListN.{length}
 use Rattle.base.specs.Memory.{part}
-use Rattle.numbering.specs.Types.{rules_of}
 use Rattle.laying.specs.Passes.{world}
-use Rattle.nameputs.proofs.Walks.{Naming, names_start, names_room, names_more, names_end}
+use Rattle.nameputs.proofs.Walks.{names_start, names_room, names_more, names_end}
 use Rattle.inputs.proofs.Standing.{names_count}
 use Rattle.nameputs.proofs.put_names.Goals as goal
 

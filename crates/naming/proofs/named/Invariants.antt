@@ -1,12 +1,9 @@
-use Rattle.naming.proofs.Walking.{Starts, starts, known_as, walks_less, walk_asks, walk_refused, walk_full, head_asks, walk_on, entry_asks, walk_kept}
+use Rattle.naming.proofs.Walking.{Starts}
 use Rattle.base.specs.Choice.{pick}
 use Rattle.tables.specs.Tables.{in_rows}
 use Rattle.numbering.specs.Types.{rules_of}
-use native.Mathlib.Omega.{arith}
-use mathlib.Core.Bool.{true}
-use mathlib.Core.Path.{◌≡◌, refl, sym, ◌∙◌}
+use mathlib.Core.Path.{◌≡◌}
 use lib.ListN.{length}
-use borrow.Author.Rules.{rules}
 use Rattle.naming.proofs.named.Given as goal
 
 abbrev pub invariant-loop-r : goal.invariant-loop-r

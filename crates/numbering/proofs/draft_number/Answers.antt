@@ -1,4 +1,3 @@
-use borrow.Author.Rules.{rules}
 use Rattle.numbering.specs.Types.{type_number}
 use Rattle.numbering.proofs.draft_number.Goals as goal
 

@@ -1,4 +1,3 @@
-use borrow.Author.Rules.{rules}
 use Rattle.numbering.proofs.Laws.{only_draft}
 use Rattle.numbering.proofs.type_number.Goals as goal
 

@@ -1,6 +1,5 @@
 use Rattle.opencalls.specs.Calls.{opened_number, opened_state}
 use Rattle.opencalls.proofs.Laws.{opened_call}
-use borrow.Author.Rules.{rules}
 use Rattle.opencalls.proofs.open.Goals as goal
 
 pub returns-in-Fresh : goal.returns-in-Fresh

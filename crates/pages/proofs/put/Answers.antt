@@ -4,7 +4,6 @@ use native.Mathlib.Omega.{arith}
 use mathlib.Core.List.{List}
 use Prim.Native.Nat.{ℕ}
 use mathlib.Core.Path.{ap, sym, subst, ◌∙◌}
-use borrow.Author.Rules.{rules}
 use Rattle.pages.proofs.put.Goals as goal
 
 pub put_part-requires : goal.put_part-requires

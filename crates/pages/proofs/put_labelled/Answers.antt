@@ -1,7 +1,6 @@
 use Rattle.pages.proofs.Pages.{first_room, next_room, said_next}
 use Rattle.pages.specs.Page.{page}
 use Rattle.digits.specs.Digits.{printed}
-use borrow.Author.Rules.{rules}
 use Rattle.pages.proofs.put_labelled.Goals as goal
 
 pub put-next-requires : goal.put-next-requires

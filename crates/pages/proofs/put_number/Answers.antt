@@ -2,7 +2,6 @@ use Rattle.pages.proofs.Pages.{said_by}
 use Rattle.digits.specs.Digits.{printed}
 use Prim.Native.Nat.{ℕ, ◌+◌}
 use mathlib.Core.Path.{ap}
-use borrow.Author.Rules.{rules}
 use Rattle.pages.proofs.put_number.Goals as goal
 
 pub returns : goal.returns

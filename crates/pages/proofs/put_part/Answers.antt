@@ -4,7 +4,6 @@ use Rattle.base.proofs.Memory.{length_part}
 use native.Mathlib.Omega.{arith}
 use Prim.Native.Nat.{ℕ, ◌+◌}
 use mathlib.Core.Path.{ap, sym}
-use borrow.Author.Rules.{rules}
 use Rattle.pages.proofs.put_part.Goals as goal
 
 pub copy_at-requires : goal.copy_at-requires

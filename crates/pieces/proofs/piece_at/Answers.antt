@@ -1,7 +1,6 @@
 use mathlib.Core.Path.{sym, ap, ◌∙◌}
 use native.Mathlib.Omega.{arith}
 use borrow.Author.Tests.{eq-eqb, ne_eqb}
-use borrow.Author.Rules.{rules}
 use Rattle.base.proofs.Choice.{took, left}
 use Rattle.pieces.specs.Pieces.{piece_at, text_piece, number_piece}
 use Rattle.splitting.proofs.Runs.{run_number, cut_last, cut_run, cut_range}

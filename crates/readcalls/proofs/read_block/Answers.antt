@@ -1,6 +1,5 @@
 use mathlib.Core.Path.{◌∙◌}
 use Rattle.readcalls.proofs.Laws.{read_call_law, block_state}
-use borrow.Author.Rules.{rules}
 use Rattle.readcalls.proofs.read_block.Goals as goal
 
 pub returns : goal.returns

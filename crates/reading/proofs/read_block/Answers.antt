@@ -1,7 +1,6 @@
 use Rattle.reading.proofs.Loops.{block_starts, block_is, block_refused}
 use Rattle.base.proofs.Choice.{pick_true}
 use mathlib.Core.Path.{refl, ◌∙◌}
-use borrow.Author.Rules.{rules}
 use Rattle.numbering.specs.Types.{rules_of}
 use Rattle.tables.specs.Tables.{in_rows}
 use Rattle.reading.proofs.read_block.Goals as goal

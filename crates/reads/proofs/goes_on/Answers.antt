@@ -1,7 +1,6 @@
 use mathlib.Core.Path.{◌≡◌, sym, refl, ◌∙◌}
 use mathlib.Core.Bool.{Bool, false}
 use Rattle.base.proofs.Choice.{both_all, pick_either}
-use borrow.Author.Rules.{rules}
 use Rattle.reads.proofs.goes_on.Goals as goal
 
 pub returns-then-keeps : goal.returns-then-keeps

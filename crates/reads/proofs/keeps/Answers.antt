@@ -1,5 +1,4 @@
 use Rattle.reads.specs.Reads.{is_kept}
-use borrow.Author.Rules.{rules}
 use Rattle.reads.proofs.keeps.Goals as goal
 
 pub returns-in-Kept : goal.returns-in-Kept

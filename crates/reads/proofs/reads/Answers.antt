@@ -1,14 +1,6 @@
-use Rattle.reads.proofs.Loops.{Reads, reads_less, reads_on, reads_out}
-use Rattle.base.specs.Choice.{pick}
-use Rattle.numbering.specs.Types.{rules_of}
-use Rattle.sources.specs.Source.{source}
-use Rattle.inner.specs.Next.{next_of}
-use Rattle.reads.specs.Reads.{fresh, reads_from}
-use Rattle.tables.specs.Tables.{keeping, in_rows}
-use lib.ListN.{length}
-use borrow.Author.Rules.{rules}
-use Prim.Native.Nat.{◌+◌, ◌-◌}
-use mathlib.Core.Path.{◌≡◌, refl, sym, ◌∙◌}
+use Rattle.reads.proofs.Loops.{reads_less, reads_on, reads_out}
+use Prim.Native.Nat.{◌-◌}
+use mathlib.Core.Path.{refl, sym, ◌∙◌}
 use Rattle.reads.proofs.reads.Goals as goal
 
 pub loop-so_far-init : goal.loop-so_far-init

@@ -1,4 +1,4 @@
-use Rattle.reads.proofs.Loops.{Reads, reads_less, reads_on, reads_out}
+use Rattle.reads.proofs.Loops.{Reads}
 use Rattle.base.specs.Choice.{pick}
 use Rattle.numbering.specs.Types.{rules_of}
 use Rattle.sources.specs.Source.{source}
@@ -6,9 +6,8 @@ use Rattle.inner.specs.Next.{next_of}
 use Rattle.reads.specs.Reads.{fresh, reads_from}
 use Rattle.tables.specs.Tables.{keeping, in_rows}
 use lib.ListN.{length}
-use borrow.Author.Rules.{rules}
 use Prim.Native.Nat.{◌+◌, ◌-◌}
-use mathlib.Core.Path.{◌≡◌, refl, sym, ◌∙◌}
+use mathlib.Core.Path.{◌≡◌}
 use Rattle.reads.proofs.reads.Given as goal
 
 abbrev pub invariant-loop-so_far : goal.invariant-loop-so_far

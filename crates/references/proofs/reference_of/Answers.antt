@@ -1,5 +1,4 @@
 use mathlib.Core.Path.{◌≡◌, refl, sym, ◌∙◌}
-use borrow.Author.Rules.{rules}
 use Rattle.base.proofs.Choice.{took, left}
 use Rattle.references.specs.declared.Reference.TheVariants.{Diff}
 use Rattle.references.specs.References.{reference_of}

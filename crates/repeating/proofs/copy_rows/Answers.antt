@@ -1,13 +1,13 @@
 use borrow.Author.Rules.{rules}
 use native.Mathlib.Omega.{arith}
-use Prim.Native.Nat.{◌+◌, ◌-◌, ◌≤◌, ◌<◌}
+use Prim.Native.Nat.{◌+◌, ◌-◌, ◌<◌}
 use mathlib.Core.Path.{◌≡◌, refl, sym, ap, ◌∙◌}
 use lib.ListN.{length}
 use mathlib.Core.List.{List, [], ◌∷◌}
 use Rattle.tables.specs.declared.Row.{Row}
 use Rattle.tables.specs.Tables.{in_rows, row_room, row_at, put_rows}
-use Rattle.tables.proofs.Rows.{SameRows, same_room, length_put, room_numbers}
-use Rattle.repeating.specs.Repeating.{moved_row, moved_rows}
+use Rattle.tables.proofs.Rows.{same_room, length_put, room_numbers}
+use Rattle.repeating.specs.Repeating.{moved_row}
 use Rattle.repeating.proofs.Repeating.{rows_over, rows_turn, alike_more}
 use Rattle.repeating.proofs.copy_rows.Goals as goal
 

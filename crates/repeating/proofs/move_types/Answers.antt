@@ -1,10 +1,7 @@
 use borrow.Author.Rules.{rules}
 use native.Mathlib.Omega.{arith}
-use Prim.Native.Nat.{ℕ, ◌+◌, ◌-◌, ◌≤◌}
-use mathlib.Core.Path.{◌≡◌, refl, ◌∙◌}
-use lib.ListN.{length}
-use Rattle.block.specs.Block.{span_of, cursor_of}
-use Rattle.repeating.specs.Repeating.{types_past}
+use Prim.Native.Nat.{◌+◌, ◌-◌}
+use mathlib.Core.Path.{refl, ◌∙◌}
 use Rattle.repeating.proofs.Repeating.{types_over, types_more, type_later, length_typed}
 use Rattle.repeating.proofs.move_types.Goals as goal
 

@@ -1,11 +1,8 @@
-use borrow.Author.Rules.{rules}
-use native.Mathlib.Omega.{arith}
-use Prim.Native.Nat.{ℕ, ◌+◌, ◌-◌, ◌≤◌}
-use mathlib.Core.Path.{◌≡◌, refl, ◌∙◌}
+use Prim.Native.Nat.{ℕ, ◌-◌, ◌≤◌}
+use mathlib.Core.Path.{◌≡◌}
 use lib.ListN.{length}
 use Rattle.block.specs.Block.{span_of, cursor_of}
 use Rattle.repeating.specs.Repeating.{types_past}
-use Rattle.repeating.proofs.Repeating.{types_over, types_more, type_later, length_typed}
 use Rattle.repeating.proofs.move_types.Given as goal
 
 abbrev pub invariant-loop-i : goal.invariant-loop-i

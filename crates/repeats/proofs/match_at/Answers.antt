@@ -1,6 +1,5 @@
 use native.Mathlib.Omega.{arith}
 use Rattle.repeats.proofs.Ways.{match_none, match_is}
-use borrow.Author.Rules.{rules}
 use Rattle.repeats.proofs.match_at.Goals as goal
 
 pub returns-then-count-at : goal.returns-then-count-at

@@ -1,6 +1,5 @@
 use native.Mathlib.Omega.{arith}
 use Rattle.repeats.proofs.Ways.{repeats_string, repeats_char, repeats_padded, repeats_digits}
-use borrow.Author.Rules.{rules}
 use Rattle.repeats.proofs.token_of.Goals as goal
 
 pub bounds-text-i : goal.bounds-text-i

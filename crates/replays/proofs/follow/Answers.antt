@@ -1,11 +1,9 @@
-use Prim.Native.Nat.{◌-◌, ◌≤◌}
-use mathlib.Core.Path.{◌≡◌, refl, ◌∙◌}
+use Prim.Native.Nat.{◌-◌}
+use mathlib.Core.Path.{refl, ◌∙◌}
 use native.Mathlib.Omega.{arith}
-use lib.ListN.{length, drop}
+use lib.ListN.{length}
 use Rattle.model.specs.Model.{model}
-use Rattle.model.specs.Sound.{Sound}
 use Rattle.replays.proofs.Always.{sound_after, by_length}
-use Rattle.replays.specs.Replays.{replay_from}
 use Rattle.replays.proofs.Laws.{replay_ends, replay_stops, replay_steps}
 use borrow.Author.Rules.{rules}
 use Rattle.replays.proofs.follow.Goals as goal

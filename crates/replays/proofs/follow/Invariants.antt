@@ -1,13 +1,9 @@
 use Prim.Native.Nat.{◌-◌, ◌≤◌}
-use mathlib.Core.Path.{◌≡◌, refl, ◌∙◌}
-use native.Mathlib.Omega.{arith}
+use mathlib.Core.Path.{◌≡◌}
 use lib.ListN.{length, drop}
 use Rattle.model.specs.Model.{model}
 use Rattle.model.specs.Sound.{Sound}
-use Rattle.replays.proofs.Always.{sound_after, by_length}
 use Rattle.replays.specs.Replays.{replay_from}
-use Rattle.replays.proofs.Laws.{replay_ends, replay_stops, replay_steps}
-use borrow.Author.Rules.{rules}
 use Rattle.replays.proofs.follow.Given as goal
 
 abbrev pub invariant-loop-i : goal.invariant-loop-i

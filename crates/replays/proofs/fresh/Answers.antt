@@ -7,7 +7,6 @@ use Rattle.model.specs.Sound.{Sound}
 use Rattle.replays.proofs.Always.{sound_started, by_length}
 use Rattle.replays.specs.Replays.{replay_from}
 use Rattle.replays.proofs.Laws.{fresh_is}
-use borrow.Author.Rules.{rules}
 use Rattle.replays.proofs.fresh.Goals as goal
 
 pub follow-requires : goal.follow-requires

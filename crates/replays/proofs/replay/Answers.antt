@@ -3,7 +3,6 @@ use native.Mathlib.Omega.{arith}
 use Rattle.model.specs.Model.{model}
 use Rattle.replays.specs.Replays.{replay_fresh}
 use Rattle.replays.proofs.Laws.{none_sized, over_sized, well_sized, total_unread}
-use borrow.Author.Rules.{rules}
 use Rattle.replays.proofs.replay.Goals as goal
 
 pub returns-then-size-eq0 : goal.returns-then-size-eq0

@@ -2,7 +2,6 @@ use mathlib.Core.Path.{sym}
 use native.Mathlib.Omega.{arith}
 use Rattle.model.specs.Model.{model}
 use Rattle.replays.proofs.Laws.{turn_stops, turn_steps}
-use borrow.Author.Rules.{rules}
 use Rattle.replays.proofs.turn.Goals as goal
 
 pub returns-then-symbols-at : goal.returns-then-symbols-at

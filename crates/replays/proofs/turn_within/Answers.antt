@@ -4,7 +4,6 @@ use lib.ListN.{length, take}
 use lib.Seq.{length-take-le}
 use Rattle.model.specs.Model.{model}
 use Rattle.replays.proofs.Laws.{first_sound, steps_in_place}
-use borrow.Author.Rules.{rules}
 use Rattle.replays.proofs.turn_within.Goals as goal
 
 pub slice_bounds-turn-end : goal.slice_bounds-turn-end

@@ -6,7 +6,6 @@ use lib.Seq.{length-take-le}
 use Rattle.model.specs.Model.{model}
 use Rattle.replays.specs.Replays.{replay_fresh}
 use Rattle.replays.proofs.Laws.{in_place_law}
-use borrow.Author.Rules.{rules}
 use Rattle.replays.proofs.within.Goals as goal
 
 pub slice_bounds-fresh-end-2 : goal.slice_bounds-fresh-end-2

@@ -2,7 +2,6 @@ use Prim.Native.Nat.{◌-◌, ◌≤◌, ◌<◌}
 use mathlib.Core.Path.{refl}
 use native.Mathlib.Omega.{arith}
 use borrow.Author.Tests.{eq-eqb, ne_eqb, lt-ltb, le-ltb}
-use borrow.Author.Rules.{rules}
 use Rattle.base.proofs.Choice.{took, left}
 use Rattle.rises.specs.Rises.{rise_of}
 use Rattle.rises.proofs.rise_of.Goals as goal

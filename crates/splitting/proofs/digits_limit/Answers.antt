@@ -1,5 +1,4 @@
 use native.Mathlib.Omega.{arith}
-use borrow.Author.Rules.{rules}
 use Rattle.splitting.proofs.Runs.{limit_nine, limit_short}
 use Rattle.splitting.proofs.digits_limit.Goals as goal
 

@@ -1,8 +1,7 @@
 use Prim.Native.Nat.{◌-◌}
 use mathlib.Core.Path.{sym, ◌∙◌}
 use native.Mathlib.Omega.{arith}
-use borrow.Author.Rules.{rules}
-use Rattle.splitting.proofs.Cuts.{Said, said_nothing, said_here, said_out, said_small, said_digit, said_more}
+use Rattle.splitting.proofs.Cuts.{said_nothing, said_here, said_out, said_small, said_digit, said_more}
 use Rattle.splitting.proofs.number_run.Goals as goal
 
 pub loop-i-init : goal.loop-i-init

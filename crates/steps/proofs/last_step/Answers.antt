@@ -1,7 +1,6 @@
 use Rattle.base.specs.Choice.{pick}
 use Rattle.bars.specs.Bars.{carries}
 use Rattle.steps.specs.Steps.{value_step}
-use borrow.Author.Rules.{rules}
 use Rattle.steps.proofs.last_step.Goals as goal
 
 pub returns-in-String : goal.returns-in-String

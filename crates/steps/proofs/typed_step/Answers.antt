@@ -4,7 +4,6 @@ use Rattle.numbering.specs.Types.{rules_of}
 use Rattle.tables.specs.Tables.{in_rows}
 use Rattle.steps.specs.Steps.{typed_step}
 use Rattle.steps.proofs.Ways.{typed_last, typed_value}
-use borrow.Author.Rules.{rules}
 use Rattle.steps.proofs.typed_step.Goals as goal
 
 pub returns-then-is_last : goal.returns-then-is_last

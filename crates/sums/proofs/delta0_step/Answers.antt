@@ -2,7 +2,6 @@ use borrow.Author.Tests.{lt-ltb}
 use Rattle.base.specs.Choice.{pick}
 use Rattle.sums.proofs.Ways.{sum0_long}
 use Rattle.sums.specs.Sums.{delta0_step}
-use borrow.Author.Rules.{rules}
 use Rattle.sums.proofs.delta0_step.Goals as goal
 
 pub returns-then-sum-lt4294967296 : goal.returns-then-sum-lt4294967296

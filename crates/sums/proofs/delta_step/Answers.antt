@@ -1,6 +1,5 @@
 use Rattle.sums.proofs.Ways.{sum_fits, sum_long}
 use Rattle.sums.specs.Sums.{delta_step}
-use borrow.Author.Rules.{rules}
 use Rattle.sums.proofs.delta_step.Goals as goal
 
 pub returns-then-sum-lt4294967296 : goal.returns-then-sum-lt4294967296

@@ -1,6 +1,5 @@
 use mathlib.Core.Path.{refl}
 use Rattle.tables.specs.Tables.{entry_at}
-use borrow.Author.Rules.{rules}
 use Rattle.tables.proofs.entry_at.Goals as goal
 
 pub returns : goal.returns

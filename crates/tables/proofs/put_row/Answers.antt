@@ -1,7 +1,3 @@
-use Prim.Native.Nat.{◌+◌, ◌*◌, ◌≤◌}
-use native.Mathlib.Omega.{arith}
-use lib.ListN.{length}
-use Rattle.tables.specs.Tables.{row_size}
 use Rattle.tables.proofs.Rows.{row_reach, row_put}
 use borrow.Author.Rules.{rules}
 use Rattle.tables.proofs.put_row.Goals as goal

@@ -1,8 +1,5 @@
-use Prim.Native.Nat.{◌+◌, ◌*◌, ◌≤◌}
 use mathlib.Core.Path.{refl}
-use native.Mathlib.Omega.{arith}
-use lib.ListN.{length}
-use Rattle.tables.specs.Tables.{row_size, row_at}
+use Rattle.tables.specs.Tables.{row_at}
 use Rattle.tables.proofs.Rows.{row_reach}
 use borrow.Author.Rules.{rules}
 use Rattle.tables.proofs.row_in.Goals as goal

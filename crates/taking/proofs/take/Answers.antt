@@ -2,7 +2,6 @@ use native.Mathlib.Omega.{arith}
 use mathlib.Core.Path.{refl, sym, ◌∙◌}
 use Rattle.base.proofs.Choice.{took, left}
 use Rattle.taking.proofs.Taking.{kept_on, judged_on, judged_spoils, put_typed}
-use borrow.Author.Rules.{rules}
 use Rattle.taking.proofs.take.Goals as goal
 
 pub keep_token-w-requires : goal.keep_token-w-requires

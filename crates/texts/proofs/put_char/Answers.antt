@@ -3,7 +3,6 @@ use Rattle.pages.specs.Page.{page}
 use mathlib.Core.List.{[], ◌∷◌}
 use Rattle.texts.specs.Words.{char_word}
 use Rattle.texts.specs.Texts.{char_text}
-use borrow.Author.Rules.{rules}
 use Rattle.texts.proofs.put_char.Goals as goal
 
 pub put-next-requires : goal.put-next-requires

@@ -1,6 +1,5 @@
 use Rattle.texts.specs.Words.{delta_word, delta0_word, match_word, end_word}
 use Rattle.texts.specs.Texts.{choice_text}
-use borrow.Author.Rules.{rules}
 use Rattle.texts.proofs.put_choice.Goals as goal
 
 pub put_piece-requires : goal.put_piece-requires

@@ -8,7 +8,6 @@ use Rattle.digits.specs.Digits.{printed}
 use Rattle.tokens.specs.declared.Padded.{Padded}
 use Rattle.texts.specs.Words.{digits0_word, slash}
 use Rattle.texts.specs.Texts.{padded_text}
-use borrow.Author.Rules.{rules}
 use Rattle.texts.proofs.put_padded.Goals as goal
 
 -- room for what comes first, the number

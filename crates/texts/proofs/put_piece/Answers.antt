@@ -1,6 +1,5 @@
 use Rattle.texts.specs.Words.{digits_word}
 use Rattle.texts.specs.Texts.{piece_text}
-use borrow.Author.Rules.{rules}
 use Rattle.texts.proofs.put_piece.Goals as goal
 
 pub put_string-requires : goal.put_string-requires

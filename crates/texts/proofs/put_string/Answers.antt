@@ -3,7 +3,6 @@ use Rattle.pages.specs.Page.{page}
 use Rattle.base.specs.Memory.{part}
 use Rattle.texts.specs.Words.{string_word}
 use Rattle.texts.specs.Texts.{string_text}
-use borrow.Author.Rules.{rules}
 use Rattle.texts.proofs.put_string.Goals as goal
 
 pub put-next-requires : goal.put-next-requires

@@ -1,4 +1,3 @@
-use borrow.Author.Rules.{rules}
 use Rattle.tokenputs.specs.TokenPuts.{choice_type}
 use Rattle.tokenputs.proofs.choice_type.Goals as goal
 

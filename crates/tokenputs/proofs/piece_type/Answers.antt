@@ -1,4 +1,3 @@
-use borrow.Author.Rules.{rules}
 use Rattle.tokenputs.specs.TokenPuts.{piece_type}
 use Rattle.tokenputs.proofs.piece_type.Goals as goal
 

@@ -1,7 +1,6 @@
 use Prim.Native.Nat.{ℕ}
 use mathlib.Core.List.{[], ◌∷◌}
 use mathlib.Core.Path.{sym, ap, ◌∙◌, subst}
-use borrow.Author.Rules.{rules}
 use Rattle.block.specs.Block.{span_of}
 use Rattle.laying.specs.Passes.{World, world, step_of, Roomy}
 use Rattle.laying.specs.Puts.{put}

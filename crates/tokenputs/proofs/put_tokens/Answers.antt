@@ -1,14 +1,12 @@
 use Prim.Native.Nat.{◌-◌, ◌≤◌, ◌<◌}
-use mathlib.Core.Path.{◌≡◌, refl, ◌∙◌}
+use mathlib.Core.Path.{refl, ◌∙◌}
 use native.Mathlib.Omega.{arith}
 use lib.ListN.{length}
-use borrow.Author.Rules.{rules}
 use Rattle.splitting.proofs.Runs.{cut_range}
 use Rattle.splitting.proofs.Cuts.{cut_end}
 use Rattle.choices.proofs.Choices.{choice_within}
-use Rattle.numbering.specs.Types.{rules_of}
 use Rattle.laying.specs.Passes.{world}
-use Rattle.tokenputs.proofs.Walks.{Walking, walk_start, walk_room, walk_more, walk_last, walk_end}
+use Rattle.tokenputs.proofs.Walks.{walk_start, walk_room, walk_more, walk_last, walk_end}
 use Rattle.tokenputs.proofs.put_tokens.Goals as goal
 
 pub loop-a-init : goal.loop-a-init

@@ -1,14 +1,9 @@
-use Prim.Native.Nat.{◌-◌, ◌≤◌, ◌<◌}
-use mathlib.Core.Path.{◌≡◌, refl, ◌∙◌}
-use native.Mathlib.Omega.{arith}
+use Prim.Native.Nat.{◌-◌}
+use mathlib.Core.Path.{◌≡◌}
 use lib.ListN.{length}
-use borrow.Author.Rules.{rules}
-use Rattle.splitting.proofs.Runs.{cut_range}
-use Rattle.splitting.proofs.Cuts.{cut_end}
-use Rattle.choices.proofs.Choices.{choice_within}
 use Rattle.numbering.specs.Types.{rules_of}
 use Rattle.laying.specs.Passes.{world}
-use Rattle.tokenputs.proofs.Walks.{Walking, walk_start, walk_room, walk_more, walk_last, walk_end}
+use Rattle.tokenputs.proofs.Walks.{Walking}
 use Rattle.tokenputs.proofs.put_tokens.Given as goal
 
 abbrev pub invariant-loop-a : goal.invariant-loop-a

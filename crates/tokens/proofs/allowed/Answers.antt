@@ -1,7 +1,6 @@
 use mathlib.Core.Path.{sym, ◌∙◌}
 use Rattle.tokens.specs.Tokens.{bytes_of}
 use Rattle.classes.proofs.Laws.{allowed_one, allowed_printed, allowed_padded}
-use borrow.Author.Rules.{rules}
 use Rattle.tokens.proofs.allowed.Goals as goal
 
 pub text_allowed-requires : goal.text_allowed-requires

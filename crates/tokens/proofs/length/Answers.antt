@@ -2,7 +2,6 @@ use native.Mathlib.Omega.{arith}
 use mathlib.Core.Path.{sym, ◌∙◌}
 use Rattle.digits.proofs.Laws.{count_ten, length_printed}
 use Rattle.tokens.specs.Tokens.{length_of}
-use borrow.Author.Rules.{rules}
 use Rattle.tokens.proofs.length.Goals as goal
 
 pub overflow_cast-result : goal.overflow_cast-result

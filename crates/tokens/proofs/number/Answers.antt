@@ -1,5 +1,4 @@
 use Rattle.tokens.specs.Tokens.{number_of}
-use borrow.Author.Rules.{rules}
 use Rattle.tokens.proofs.number.Goals as goal
 
 pub returns-in-String : goal.returns-in-String

@@ -1,7 +1,6 @@
 use native.Mathlib.Omega.{arith}
 use Rattle.digits.proofs.Laws.{printed_short}
 use Rattle.tokens.specs.Tokens.{bytes_of, length_of}
-use borrow.Author.Rules.{rules}
 use Rattle.tokens.proofs.put.Goals as goal
 
 pub put_text-requires : goal.put_text-requires

@@ -1,5 +1,4 @@
 use Rattle.tokens.specs.Tokens.{row_of}
-use borrow.Author.Rules.{rules}
 use Rattle.tokens.proofs.put_row.Goals as goal
 
 pub returns : goal.returns

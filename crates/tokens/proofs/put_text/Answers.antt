@@ -1,5 +1,4 @@
 use Rattle.base.specs.Choice.{pick}
-use borrow.Author.Rules.{rules}
 use Rattle.tokens.proofs.put_text.Goals as goal
 
 pub copy_within-requires : goal.copy_within-requires

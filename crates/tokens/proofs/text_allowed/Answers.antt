@@ -1,5 +1,4 @@
 use Rattle.base.specs.Choice.{pick}
-use borrow.Author.Rules.{rules}
 use native.Mathlib.Omega.{arith}
 use Rattle.tokens.proofs.text_allowed.Goals as goal
 

@@ -1,5 +1,4 @@
 use Rattle.tokens.specs.Tokens.{width_of}
-use borrow.Author.Rules.{rules}
 use Rattle.tokens.proofs.width.Goals as goal
 
 pub returns-in-String : goal.returns-in-String

@@ -1,5 +1,4 @@
 use mathlib.Core.Path.{subst, sym}
-use borrow.Author.Rules.{rules}
 use Rattle.block.specs.Block.{span_of}
 use Rattle.block.specs.Streams.{dzlen_stream}
 use Rattle.laying.specs.Passes.{World, world, Room}

@@ -1,4 +1,3 @@
-use borrow.Author.Rules.{rules}
 use Rattle.laying.specs.Passes.{world}
 use Rattle.valueputs.proofs.Laws.{itself_room, delta_room, delta0_room, itself_ran, delta_ran, delta0_ran, match_ran, end_ran}
 use Rattle.valueputs.proofs.put_value.Goals as goal

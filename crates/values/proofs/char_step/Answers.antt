@@ -1,5 +1,4 @@
 use Rattle.values.specs.Values.{char_step}
-use borrow.Author.Rules.{rules}
 use Rattle.values.proofs.char_step.Goals as goal
 
 pub returns-in-Value : goal.returns-in-Value

@@ -1,5 +1,4 @@
 use Rattle.values.specs.Values.{digits0_step}
-use borrow.Author.Rules.{rules}
 use Rattle.values.proofs.digits0_step.Goals as goal
 
 pub returns-in-Value : goal.returns-in-Value

@@ -1,5 +1,4 @@
 use Rattle.values.specs.Values.{digits_step}
-use borrow.Author.Rules.{rules}
 use Rattle.values.proofs.digits_step.Goals as goal
 
 pub returns-in-Value : goal.returns-in-Value

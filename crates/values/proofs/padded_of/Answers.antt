@@ -1,5 +1,4 @@
 use Rattle.values.specs.Values.{padded_of}
-use borrow.Author.Rules.{rules}
 use Rattle.values.proofs.padded_of.Goals as goal
 
 pub returns-in-Value : goal.returns-in-Value

@@ -1,7 +1,6 @@
 use mathlib.Core.Path.{sym, ◌∙◌}
 use Rattle.base.specs.Choice.{pick}
 use Rattle.values.specs.Values.{padded_step}
-use borrow.Author.Rules.{rules}
 use Rattle.values.proofs.padded_step.Goals as goal
 
 pub returns-then-fits_width : goal.returns-then-fits_width

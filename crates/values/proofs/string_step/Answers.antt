@@ -1,5 +1,4 @@
 use Rattle.values.specs.Values.{string_step}
-use borrow.Author.Rules.{rules}
 use Rattle.values.proofs.string_step.Goals as goal
 
 pub returns-in-Bytes : goal.returns-in-Bytes

@@ -1,5 +1,4 @@
 use Rattle.values.specs.Values.{with_width}
-use borrow.Author.Rules.{rules}
 use Rattle.values.proofs.with_width.Goals as goal
 
 pub returns-in-Value : goal.returns-in-Value

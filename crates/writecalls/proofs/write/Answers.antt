@@ -1,6 +1,5 @@
 use Rattle.writecalls.specs.Calls.{written_number, written_totals}
 use Rattle.writecalls.proofs.Laws.{write_call_law}
-use borrow.Author.Rules.{rules}
 use Rattle.writecalls.proofs.write.Goals as goal
 
 pub returns-in-Written : goal.returns-in-Written

@@ -1,6 +1,5 @@
 use native.Mathlib.Omega.{arith}
 use Rattle.numbering.specs.Types.{rules_of}
-use borrow.Author.Rules.{rules}
 use Rattle.writing.proofs.Laid.{no_room, room, still_ready, done}
 use Rattle.writing.proofs.lay.Goals as goal
 

@@ -2,7 +2,6 @@ use mathlib.Core.Path.{sym, ◌∙◌}
 use native.Mathlib.Omega.{arith}
 use borrow.Author.Tests.{not-true, not-false}
 use Rattle.numbering.specs.Types.{rules_of}
-use borrow.Author.Rules.{rules}
 use Rattle.writing.proofs.Laid.{countable_of, unended, too_many, refused_1, refused_12, refused_8, judged, accepted}
 use Rattle.writing.proofs.write.Goals as goal
 

@@ -1,9 +1,7 @@
 use native.Mathlib.Omega.{arith}
 use mathlib.Core.Path.{sym, ap, ◌∙◌}
-use borrow.Author.Tests.{not-true, not-false}
 use Rattle.block.specs.Block.{opening}
 use Rattle.block.proofs.Laws.{sound_directory, sound_table, opens_unsound, opens_many, opens_fresh}
-use borrow.Author.Rules.{rules}
 use Rattle.block.proofs.Block.open.Goals as goal
 
 pub returns-then-not-sound : goal.returns-then-not-sound

@@ -1,7 +1,6 @@
 use Rattle.kept.specs.Judgement.{counts}
 use Rattle.tables.specs.Tables.{room, row_room}
 use Rattle.base.proofs.Choice.{and_both}
-use borrow.Author.Rules.{rules}
 use Rattle.kept.proofs.judgement.counts.Goals as goal
 
 pub returns : goal.returns

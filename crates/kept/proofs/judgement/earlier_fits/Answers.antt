@@ -3,7 +3,6 @@ use mathlib.Core.Path.{sym, ◌∙◌}
 use Rattle.base.proofs.Choice.{and_true}
 use Rattle.kept.proofs.Laws.{rows_inside}
 use Rattle.kept.proofs.Steps.{earlier_taken, earlier_left}
-use borrow.Author.Rules.{rules}
 use Rattle.kept.proofs.judgement.earlier_fits.Goals as goal
 
 pub rows_fit-requires : goal.rows_fit-requires

@@ -1,6 +1,5 @@
 use Rattle.kept.specs.Judgement.{entry_text}
 use Rattle.base.proofs.Choice.{and_both, both_both}
-use borrow.Author.Rules.{rules}
 use Rattle.kept.proofs.judgement.entry_text.Goals as goal
 
 pub returns : goal.returns

@@ -1,6 +1,5 @@
 use Rattle.kept.specs.Judgement.{row_fits}
 use Rattle.base.proofs.Choice.{and_both}
-use borrow.Author.Rules.{rules}
 use Rattle.kept.proofs.judgement.row_fits.Goals as goal
 
 pub returns : goal.returns

@@ -1,7 +1,6 @@
 use mathlib.Core.Path.{sym, ◌∙◌}
 use Rattle.base.proofs.Choice.{and_both}
 use Rattle.kept.proofs.Laws.{kind_string, kind_char, kind_padded, kind_other}
-use borrow.Author.Rules.{rules}
 use Rattle.kept.proofs.judgement.row_kind.Goals as goal
 
 pub returns-in-1 : goal.returns-in-1

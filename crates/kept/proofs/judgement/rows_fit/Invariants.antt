@@ -1,12 +1,8 @@
-use borrow.Author.Rules.{rules}
-use native.Mathlib.Omega.{arith}
 use Prim.Native.Nat.{◌≤◌, ◌-◌, ◌+◌}
 use mathlib.Core.Path.{◌≡◌}
 use Rattle.base.specs.Choice.{both}
 use Rattle.tables.specs.Tables.{in_rows}
 use Rattle.kept.specs.Judgement.{rows_fit}
-use Rattle.base.proofs.Choice.{and_both}
-use Rattle.kept.proofs.Steps.{rows_start, rows_turn, rows_done}
 use Rattle.kept.proofs.judgement.rows_fit.Given as goal
 
 abbrev pub invariant-loop-i : goal.invariant-loop-i

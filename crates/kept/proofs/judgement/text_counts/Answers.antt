@@ -1,6 +1,5 @@
 use Rattle.kept.specs.Judgement.{text_counts}
 use Rattle.base.proofs.Choice.{and_both, both_both}
-use borrow.Author.Rules.{rules}
 use Rattle.kept.proofs.judgement.text_counts.Goals as goal
 
 pub returns : goal.returns

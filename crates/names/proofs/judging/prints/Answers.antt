@@ -4,7 +4,6 @@ use lib.ListN.{length}
 use Rattle.tokens.specs.Tokens.{bytes_of}
 use Rattle.tokens.proofs.Laws.{length_bytes}
 use Rattle.names.proofs.Judgement.{long_spoils, short_prints}
-use borrow.Author.Rules.{rules}
 use Rattle.names.proofs.judging.prints.Goals as goal
 
 pub returns-then-before-length : goal.returns-then-before-length

@@ -1,5 +1,4 @@
 use Rattle.names.proofs.Turns.{token_put}
-use borrow.Author.Rules.{rules}
 use Rattle.tables.specs.Tables.{in_rows}
 use Rattle.names.proofs.keeping.keep_token.Goals as goal
 

@@ -1,7 +1,6 @@
 use Rattle.names.specs.Names.{type_in}
 use Rattle.numbering.specs.Types.{numbers_of}
 use mathlib.Core.Path.{sym, ap, ◌∙◌}
-use borrow.Author.Rules.{rules}
 use Rattle.names.proofs.keeping.type_in.Goals as goal
 
 pub returns-in-Value : goal.returns-in-Value

@@ -1,7 +1,6 @@
 use native.Mathlib.Omega.{arith}
 use mathlib.Core.Path.{refl}
 use Rattle.spans.proofs.Laws.{byte_short, byte_value}
-use borrow.Author.Rules.{rules}
 use Rattle.spans.proofs.Cursor.next_byte.Goals as goal
 
 pub returns-then-stop-at : goal.returns-then-stop-at

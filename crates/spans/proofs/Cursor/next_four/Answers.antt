@@ -1,7 +1,6 @@
 use native.Mathlib.Omega.{arith}
 use Rattle.spans.specs.Spans.{four}
 use Rattle.spans.proofs.Laws.{four_short, four_value}
-use borrow.Author.Rules.{rules}
 use Rattle.spans.proofs.Cursor.next_four.Goals as goal
 
 pub returns-then-stop-at : goal.returns-then-stop-at

@@ -1,7 +1,6 @@
 use borrow.Author.Rules.{rules}
-use Prim.Native.Nat.{◌<◌, ◌-◌, ◌^◌}
-use mathlib.Core.Path.{◌≡◌, sym, refl, ◌∙◌}
-use Rattle.spans.specs.Spans.{text_end}
+use Prim.Native.Nat.{◌-◌}
+use mathlib.Core.Path.{sym, refl, ◌∙◌}
 use Rattle.spans.proofs.Laws.{text_found, text_none, end_here, end_next, end_out}
 use Rattle.spans.proofs.Cursor.next_text.Goals as goal
 

@@ -1,8 +1,6 @@
-use borrow.Author.Rules.{rules}
 use Prim.Native.Nat.{◌<◌, ◌-◌, ◌^◌}
-use mathlib.Core.Path.{◌≡◌, sym, refl, ◌∙◌}
+use mathlib.Core.Path.{◌≡◌}
 use Rattle.spans.specs.Spans.{text_end}
-use Rattle.spans.proofs.Laws.{text_found, text_none, end_here, end_next, end_out}
 use Rattle.spans.proofs.Cursor.next_text.Given as goal
 
 abbrev pub invariant-loop-i : goal.invariant-loop-i
