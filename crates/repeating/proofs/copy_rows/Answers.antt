@@ -10,9 +10,6 @@ use Rattle.repeating.proofs.Repeating.{rows_over, rows_turn, alike_more}
 use borrow.Author.Rules.{rules}
 use Rattle.repeating.proofs.copy_rows.Goals as goal
 
-pub loop-i-init : goal.loop-i-init
-loop-i-init c = (search rules, (search rules, (search rules, (refl, (λ j h. refl, (λ h. refl, refl))))))
-
 -- a row that is looked at is as it was
 row_is : (rows base : Table) (n i : ℕ) → SameRows rows base n → i < n → {r : Row} → r ≡ row_at rows i → r ≡ row_at base i
 row_is rows base n i s l e = e ∙ s i l
@@ -22,12 +19,6 @@ row_in-r-requires c = let r = same_room c.loop-i.rows c.args.rows.now c.loop-i.i
 
 pub put_row-requires : goal.put_row-requires
 put_row-requires c = let r = same_room c.loop-i.rows c.args.rows.now c.loop-i.invariant.1.1.1.0 in search rules
-
-pub overflow_add-start : goal.overflow_add-start
-overflow_add-start c =
-    let l = c.loop-i in
-    let e = ap (λ (x : Row). x.length) (row_is _ _ _ l.i l.invariant.1.1.1.1.0 (omega arith) c.row_in-r.ensures) in
-    record { fits = omega (arith, c.requires.by_index_2 l.i (omega arith) (omega arith), l.invariant.1.1.1.1.1.0 (omega arith)) }
 
 pub overflow_add-k : goal.overflow_add-k
 overflow_add-k c =
@@ -63,9 +54,6 @@ loop-i-preserved c =
         ),
       ),
     )
-
-pub shape_of-rows : goal.shape_of-rows
-shape_of-rows c = c.loop-i.invariant.1.1.1.0
 
 pub returns : goal.returns
 returns c =

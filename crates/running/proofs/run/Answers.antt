@@ -49,10 +49,6 @@ returns-then-len-w c =
       cursors_value = puts_long e a.used a.row a.p.0 a.len m a.keeping;
     }
 
-pub overflow_add-used : goal.overflow_add-used
-overflow_add-used c =
-    record { fits = omega (arith, c.requires.le_p, c.requires.used_bound) }
-
 pub repeat-requires : goal.repeat-requires
 repeat-requires c =
     let a = c.args in
@@ -72,10 +68,6 @@ repeat-requires c =
       w_in_bounds = (omega (arith, z.0), omega (arith, u.0, c.requires.le_p, c.if-len-w.false));
       q_bound = (omega (arith, f.0, u.1.0), (u.1.1, z.1));
     }
-
-pub overflow_add-result : goal.overflow_add-result
-overflow_add-result c =
-    record { fits = omega (arith, c.if-len-w.false, c.requires.le_p) }
 
 pub returns-then-keeping : goal.returns-then-keeping
 returns-then-keeping c =

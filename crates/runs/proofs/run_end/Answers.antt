@@ -12,9 +12,6 @@ use Rattle.runs.proofs.Matches.{run_over, run_stops, run_more}
 use borrow.Author.Rules.{rules}
 use Rattle.runs.proofs.run_end.Goals as goal
 
-pub loop-q-init : goal.loop-q-init
-loop-q-init c = (search rules, refl)
-
 -- what is seen at a position
 seen : (s : Source) (q : ℕ) {found : NextByte} {t : TokenType} {b : Bool} → b ≡ is_match t → t ≡ type_in s.rules.numbers found → found ≡ byte_in s q 0 → b ≡ is_match (type_at s q)
 seen s q e f g = e ∙ ap is_match (f ∙ ap (type_in s.rules.numbers) g)

@@ -15,15 +15,6 @@ use Rattle.tables.specs.Tables.{in_rows}
 use Rattle.tables.proofs.Rows.{numbers_below}
 use Rattle.turns.proofs.turn.Goals as goal
 
-pub typed_step-requires : goal.typed_step-requires
-typed_step-requires c =
-    let a = c.args in
-    record {
-      fact = c.requires.fact;
-      rows = rows_reach a.at.used (earlier a.text.now (in_rows a.rows.now) a.first a.count) c.requires.rows (omega arith);
-      count_bound = (omega arith, c.requires.placed.0.0);
-    }
-
 pub take-requires : goal.take-requires
 take-requires c =
     let a = c.args in

@@ -67,30 +67,15 @@ on_bounds k =
     let s = (goal.at.In-On k).After-last-end in
     run_bounds (way s) (asked s) (here (goal.at.In-On k).In-loop-p) k.loop-p.p.0 k.loop-p.len k.loop-p.invariant.0 k.loop-p-test.true _ k.run.ensures.value _ _ k.in-On.is
 
-pub last-end-requires : goal.last-end-requires
-last-end-requires c = c.requires.rows.most
-
 pub loop-p-init : goal.loop-p-init
 loop-p-init c =
     let s = (goal.at.loop-p-init c).After-last-end in
     (begins (way s) (asked s) (λ i. omega (arith, s.type_inv.text i)) (numbers_below _ _ (λ i. omega (arith, s.type_inv.rows i))), refl)
 
-pub run-requires : goal.run-requires
-run-requires c =
-    let s = (goal.at.run-requires c).After-last-end in
-    let r = run_asks (way s) (asked s) (here (goal.at.run-requires c).In-loop-p) _ _ c.loop-p.invariant.0 c.loop-p-test.true in
-    record { fact = r.0; rows = r.1.0; reaches = r.1.1.0; le_p = r.1.1.1.0; used_bound = r.1.1.1.1.0; run_room = r.1.1.1.1.1 }
-
-pub shape_of-cursors-in_default : goal.shape_of-cursors-in_default
-shape_of-cursors-in_default c =
-    let s = (goal.at.shape_of-cursors-in_default c).After-last-end in
-    c.run.auto.cursors ∙ tables (way s) (asked s) (here (goal.at.shape_of-cursors-in_default c).In-loop-p) _ _ c.loop-p.invariant.0
-
-pub shape_of-text-in_default : goal.shape_of-text-in_default
-shape_of-text-in_default c = c.run.auto.text ∙ c.loop-p.invariant.0.length_text
-
-pub shape_of-rows-in_default : goal.shape_of-rows-in_default
-shape_of-rows-in_default c = c.run.auto.rows ∙ c.loop-p.invariant.1
+pub run-requires-clause-run_room : goal.run-requires-clause-run_room
+run-requires-clause-run_room c =
+    let s = (goal.at.run-requires-clause-run_room c).After-last-end in
+    (run_asks (way s) (asked s) (here (goal.at.run-requires-clause-run_room c).In-loop-p) _ _ c.loop-p.invariant.0 c.loop-p-test.true).1.1.1.1.1
 
 pub returns-in_default : goal.returns-in_default
 returns-in_default c =
@@ -141,17 +126,6 @@ ended-requires c =
     let r = end_asks (way s) (asked s) (ending d) _ _ (at_end_law d).0 (on_bounds k).1 (at_end_law d).1 in
     record { le_p = r.0; len_in_bounds = r.1 }
 
-pub shape_of-cursors-in-End : goal.shape_of-cursors-in-End
-shape_of-cursors-in-End c =
-    let s = (goal.at.shape_of-cursors-in-End c).After-last-end in let d = (goal.at.shape_of-cursors-in-End c).In-End in
-    c.ended.auto.cursors ∙ tables (way s) (asked s) (ending d) _ _ (at_end_law d).0
-
-pub shape_of-text-in-End : goal.shape_of-text-in-End
-shape_of-text-in-End c = c.ended.auto.text ∙ (at_end_law (goal.at.shape_of-text-in-End c).In-End).0.length_text
-
-pub shape_of-rows-in-End : goal.shape_of-rows-in-End
-shape_of-rows-in-End c = c.turn.auto.rows ∙ run_numbers (goal.at.shape_of-rows-in-End c).In-On
-
 pub returns-in-End : goal.returns-in-End
 returns-in-End c =
     let s = (goal.at.returns-in-End c).After-last-end in let k = (goal.at.returns-in-End c).In-On in let d = (goal.at.returns-in-End c).In-End in
@@ -159,33 +133,11 @@ returns-in-End c =
     let r = walks_done (way s) (asked s) (ending d) _ _ (at_end_law d).0 (on_bounds k).1 (at_end_law d).1 _ _ _ e.value e.text_value e.cursors_value in
     record { value = r.0; cursors_value = r.1 }
 
-pub shape_of-cursors-in-Refused : goal.shape_of-cursors-in-Refused
-shape_of-cursors-in-Refused c =
-    let s = (goal.at.shape_of-cursors-in-Refused c).After-last-end in let k = (goal.at.shape_of-cursors-in-Refused c).In-On in
-    c.turn.auto.cursors ∙ tables (way s) (asked s) (after k) _ _ (run_on k)
-
-pub shape_of-text-in-Refused : goal.shape_of-text-in-Refused
-shape_of-text-in-Refused c = c.turn.auto.text ∙ (run_on (goal.at.shape_of-text-in-Refused c).In-On).length_text
-
-pub shape_of-rows-in-Refused : goal.shape_of-rows-in-Refused
-shape_of-rows-in-Refused c = c.turn.auto.rows ∙ run_numbers (goal.at.shape_of-rows-in-Refused c).In-On
-
 pub returns-in-Refused : goal.returns-in-Refused
 returns-in-Refused c =
     let s = (goal.at.returns-in-Refused c).After-last-end in let k = (goal.at.returns-in-Refused c).In-On in let e = c.turn.ensures in
     let r = walks_refused (way s) (asked s) (after k) _ _ (run_on k) (on_bounds k).1 _ c.place-at.ensures _ _ c.in-Refused.is _ (e.value, e.cursors_value) in
     record { value = r.0; cursors_value = r.1 }
-
-pub shape_of-cursors : goal.shape_of-cursors
-shape_of-cursors c =
-    let s = (goal.at.shape_of-cursors c).After-last-end in
-    tables (way s) (asked s) (memory c.loop-p.text (in_rows c.loop-p.rows) c.loop-p.cursors) _ _ c.loop-p.invariant.0
-
-pub shape_of-text : goal.shape_of-text
-shape_of-text c = c.loop-p.invariant.0.length_text
-
-pub shape_of-rows : goal.shape_of-rows
-shape_of-rows c = c.loop-p.invariant.1
 
 pub returns : goal.returns
 returns c =
