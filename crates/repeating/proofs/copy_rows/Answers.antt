@@ -1,41 +1,24 @@
-use borrow.Author.Rules.{rules}
 use native.Mathlib.Omega.{arith}
-use Prim.Native.Nat.{◌+◌, ◌-◌, ◌<◌}
+use Prim.Native.Nat.{ℕ, ◌+◌, ◌-◌, ◌≤◌, ◌<◌}
 use mathlib.Core.Path.{◌≡◌, refl, sym, ap, ◌∙◌}
-use lib.ListN.{length}
 use mathlib.Core.List.{List, [], ◌∷◌}
 use Rattle.tables.specs.declared.Row.{Row}
-use Rattle.tables.specs.Tables.{in_rows, row_room, row_at, put_rows}
-use Rattle.tables.proofs.Rows.{same_room, length_put, room_numbers}
+use Rattle.tables.specs.Tables.{Table, in_rows, row_room, row_at, put_rows}
+use Rattle.tables.proofs.Rows.{SameRows, same_room, length_put, room_numbers}
 use Rattle.repeating.specs.Repeating.{moved_row}
 use Rattle.repeating.proofs.Repeating.{rows_over, rows_turn, alike_more}
+use borrow.Author.Rules.{rules}
 use Rattle.repeating.proofs.copy_rows.Goals as goal
 
-pub loop-i-init : goal.loop-i-init
-loop-i-init c = (search rules, (search rules, (search rules, (refl, (λ j h. refl, (λ h. refl, refl))))))
-
-abbrev Head : Type 0
-Head = goal.At-loop-i
-
 -- a row that is looked at is as it was
-row_is : (h : Head) → h.loop-i.i < h.args.to → {r : Row} → r ≡ row_at (in_rows h.loop-i.rows) h.loop-i.i → r ≡ row_at (in_rows h.args.rows.now) h.loop-i.i
-row_is h l e = e ∙ h.loop-i.invariant.1.1.1.1.0 h.loop-i.i l
-
--- there is as much room as there was
-room_is : (h : Head) → row_room (in_rows h.loop-i.rows) ≡ row_room (in_rows h.args.rows.now)
-room_is h = same_room h.loop-i.rows h.args.rows.now h.loop-i.invariant.1.1.1.0
+row_is : (rows base : Table) (n i : ℕ) → SameRows rows base n → i < n → {r : Row} → r ≡ row_at rows i → r ≡ row_at base i
+row_is rows base n i s l e = e ∙ s i l
 
 pub row_in-r-requires : goal.row_in-r-requires
-row_in-r-requires c = let r = room_is (search) in search rules
+row_in-r-requires c = let r = same_room c.loop-i.rows c.args.rows.now c.loop-i.invariant.1.1.1.0 in search rules
 
 pub put_row-requires : goal.put_row-requires
-put_row-requires c = let r = room_is (search) in search rules
-
-pub overflow_add-start : goal.overflow_add-start
-overflow_add-start c =
-    let l = c.loop-i in
-    let e = ap (λ (x : Row). x.length) (row_is (goal.at.overflow_add-start c).At-loop-i (omega arith) c.row_in-r.ensures) in
-    record { fits = omega (arith, c.requires.by_index_2 l.i (omega arith) (omega arith), l.invariant.1.1.1.1.1.0 (omega arith)) }
+put_row-requires c = let r = same_room c.loop-i.rows c.args.rows.now c.loop-i.invariant.1.1.1.0 in search rules
 
 pub overflow_add-k : goal.overflow_add-k
 overflow_add-k c =
@@ -47,11 +30,11 @@ pub loop-i-preserved : goal.loop-i-preserved
 loop-i-preserved c =
     let a = c.args in let l = c.loop-i in
     let x = c.row_in-r in
-    let r = row_is (goal.at.loop-i-preserved c).At-loop-i (omega arith) x.ensures in
+    let r = row_is _ _ _ l.i l.invariant.1.1.1.1.0 (omega arith) x.ensures in
     let e = ap (λ (x : Row). x.length) r in
     let moved : List Row = moved_row x.result l.start ∷ [] in
     let w : in_rows c.put_row.new.rows ≡ put_rows (in_rows l.rows) l.k moved = rw c.put_row.ensures in
-    let z = room_is (goal.at.loop-i-preserved c).At-loop-i in (
+    let z = same_room l.rows a.rows.now l.invariant.1.1.1.0 in (
       omega arith,
       (
         omega arith,
@@ -71,9 +54,6 @@ loop-i-preserved c =
         ),
       ),
     )
-
-pub shape_of-rows : goal.shape_of-rows
-shape_of-rows c = c.loop-i.invariant.1.1.1.0
 
 pub returns : goal.returns
 returns c =

@@ -1,33 +1,21 @@
 use native.Mathlib.Omega.{arith}
 use Prim.Native.Nat.{◌+◌, ◌-◌, ◌≤◌}
-use mathlib.Core.Path.{◌≡◌}
-use Rattle.tables.specs.declared.Row.{Row}
-use Rattle.tables.specs.Tables.{in_rows, row_at}
+use Rattle.tables.specs.Tables.{in_rows}
 use Rattle.repeating.proofs.Repeating.{repeat_ends, repeat_laid, repeat_fits, repeat_put_law}
 use Rattle.repeating.proofs.repeat.Goals as goal
 
 -- the run's text ends below the place that it is copied to
-ends : (p : goal.Start) {r : Row} → r ≡ row_at (in_rows p.args.rows.now) (p.args.first + (p.args.p.0 - 1)) → r.start + p.args.w ≤ p.args.at
-ends p e =
-    let a = p.args in
-    rw e
-    (repeat_ends a.text.now (in_rows a.rows.now) a.first a.p.0 a.q.0 a.w a.at p.requires.rows p.requires.rows_spelt (omega (arith, p.requires.cursors_len)) (omega (arith, p.requires.cursors_len)) p.requires.w_value)
-
-pub overflow_add-start : goal.overflow_add-start
-overflow_add-start c =
-    record { fits = omega (arith, ends (goal.at.overflow_add-start c).Start c.row_in-lead.ensures, c.requires.w_in_bounds.1) }
-
 pub copy_within-requires : goal.copy_within-requires
 copy_within-requires c =
-    (omega arith, (ends (goal.at.copy_within-requires c).Start c.row_in-lead.ensures, omega (arith, c.requires.w_in_bounds.0)))
+    let a = c.args in let r = c.requires in
+    let e : c.row_in-lead.result.start + a.w ≤ a.at =
+        rw c.row_in-lead.ensures (repeat_ends a.text.now (in_rows a.rows.now) a.first a.p.0 a.q.0 a.w a.at r.rows r.rows_spelt (omega (arith, r.cursors_len)) (omega (arith, r.cursors_len)) r.w_value) in
+    (omega arith, (e, omega (arith, r.w_in_bounds.0)))
 
-pub copy_rows-requires : goal.copy_rows-requires
-copy_rows-requires c =
-    let a = c.args in let r = c.requires.q_bound in let z = c.requires.cursors_len.1 in record {
-      from_le_to = (omega arith, (omega (arith, r.0), omega (arith, r.1.1)));
-      by_index = repeat_laid a.text.now (in_rows a.rows.now) a.first a.p.0 a.q.0 a.w a.at c.requires.rows c.requires.rows_spelt (omega arith) (omega arith) c.requires.w_value;
-      by_index_2 = repeat_fits a.text.now (in_rows a.rows.now) a.first a.p.0 a.q.0 a.w a.at c.requires.rows c.requires.rows_spelt (omega arith) (omega arith) c.requires.w_value c.requires.w_in_bounds.1;
-    }
+pub copy_rows-requires-clause-by_index_2 : goal.copy_rows-requires-clause-by_index_2
+copy_rows-requires-clause-by_index_2 c =
+    let a = c.args in let r = c.requires in let z = r.cursors_len.1 in
+    repeat_fits a.text.now (in_rows a.rows.now) a.first a.p.0 a.q.0 a.w a.at r.rows r.rows_spelt (omega arith) (omega arith) r.w_value r.w_in_bounds.1
 
 pub returns : goal.returns
 returns c =

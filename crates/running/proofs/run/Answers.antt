@@ -1,3 +1,4 @@
+use borrow.Author.Rules.{rules}
 use native.Mathlib.Omega.{arith}
 use Prim.Native.Nat.{◌+◌, ◌-◌, ◌<◌}
 use mathlib.Core.Path.{sym}
@@ -8,77 +9,85 @@ use Rattle.numbering.specs.Types.{rules_of}
 use Rattle.tables.specs.Tables.{in_rows}
 use Rattle.running.proofs.run.Goals as goal
 
--- what the function looks at
-abbrev src : goal.Start → Source
-src p = let a = p.args in source (rules_of a.set) a.bytes.now a.dir.now a.cursors.now
-
-abbrev back : goal.Start → Earlier
-back p = let a = p.args in earlier a.text.now (in_rows a.rows.now) a.first a.count
-
-abbrev mem : goal.Start → Memory
-mem p = let a = p.args in memory a.text.now (in_rows a.rows.now) a.cursors.now
-
 pub returns-then-q-p : goal.returns-then-q-p
 returns-then-q-p c =
-    let a = c.args in record {
-      value = ran_none (src (goal.at.returns-then-q-p c).Start) (back (goal.at.returns-then-q-p c).Start) a.end.0 a.p.0 c.run_end-q.result.0 a.len c.run_end-q.ensures c.if-q-p.true;
-      cursors_value = puts_none (back (goal.at.returns-then-q-p c).Start) a.used a.row a.p.0 a.len (mem (goal.at.returns-then-q-p c).Start) a.keeping a.p.0 a.len (omega arith);
+    let a = c.args in
+    let s = source (rules_of a.set) a.bytes.now a.dir.now a.cursors.now in
+    let e = earlier a.text.now (in_rows a.rows.now) a.first a.count in
+    let m = memory a.text.now (in_rows a.rows.now) a.cursors.now in
+    record {
+      value = ran_none s e a.end.0 a.p.0 c.run_end-q.result.0 a.len c.run_end-q.ensures c.if-q-p.true;
+      cursors_value = puts_none e a.used a.row a.p.0 a.len m a.keeping a.p.0 a.len (omega arith);
     }
 
 pub overflow_add-first-2 : goal.overflow_add-first-2
 overflow_add-first-2 c =
-    let a = c.args in let q = c.run_end-q in
-    let f = run_few (src (goal.at.overflow_add-first-2 c).Start) (back (goal.at.overflow_add-first-2 c).Start) a.used a.end.0 a.p.0 q.result.0 c.requires.rows c.requires.reaches c.requires.le_p.0 q.ensures (omega arith) in
+    let a = c.args in
+    let s = source (rules_of a.set) a.bytes.now a.dir.now a.cursors.now in
+    let e = earlier a.text.now (in_rows a.rows.now) a.first a.count in
+    let q = c.run_end-q in
+    let f = run_few s e a.used a.end.0 a.p.0 q.result.0 c.requires.rows c.requires.reaches c.requires.le_p.0 q.ensures (omega arith) in
     record { fits = omega (arith, f.0, c.requires.used_bound) }
 
 pub run_length-w-requires : goal.run_length-w-requires
 run_length-w-requires c =
-    let a = c.args in let q = c.run_end-q in
-    length_asks (src (goal.at.run_length-w-requires c).Start) (back (goal.at.run_length-w-requires c).Start) a.used a.end.0 a.p.0 q.result.0 c.requires.rows c.requires.reaches c.requires.le_p.0 q.ensures (omega arith) c.requires.used_bound.0  -- ?? from_lt_to,from_bound,to_bound
+    let a = c.args in
+    let s = source (rules_of a.set) a.bytes.now a.dir.now a.cursors.now in
+    let e = earlier a.text.now (in_rows a.rows.now) a.first a.count in
+    let q = c.run_end-q in
+    let r = length_asks s e a.used a.end.0 a.p.0 q.result.0 c.requires.rows c.requires.reaches c.requires.le_p.0 q.ensures (omega arith) c.requires.used_bound.0 in
+    record { from_lt_to = r.0; from_bound = r.1.0; to_bound = r.1.1 }
 
 pub returns-then-len-w : goal.returns-then-len-w
 returns-then-len-w c =
-    let a = c.args in let q = c.run_end-q in let w = c.run_length-w in record {
-      value = ran_long (src (goal.at.returns-then-len-w c).Start) (back (goal.at.returns-then-len-w c).Start) a.end.0 a.p.0 q.result.0 a.len q.ensures w.result w.ensures (omega (arith, c.if-q-p.false)) (omega (arith, c.if-len-w.true, c.requires.le_p));
-      cursors_value = puts_long (back (goal.at.returns-then-len-w c).Start) a.used a.row a.p.0 a.len (mem (goal.at.returns-then-len-w c).Start) a.keeping;
+    let a = c.args in
+    let s = source (rules_of a.set) a.bytes.now a.dir.now a.cursors.now in
+    let e = earlier a.text.now (in_rows a.rows.now) a.first a.count in
+    let m = memory a.text.now (in_rows a.rows.now) a.cursors.now in
+    let q = c.run_end-q in let w = c.run_length-w in record {
+      value = ran_long s e a.end.0 a.p.0 q.result.0 a.len q.ensures w.result w.ensures (omega (arith, c.if-q-p.false)) (omega (arith, c.if-len-w.true, c.requires.le_p));
+      cursors_value = puts_long e a.used a.row a.p.0 a.len m a.keeping;
     }
-
-pub overflow_add-used : goal.overflow_add-used
-overflow_add-used c =
-    record { fits = omega (arith, c.requires.le_p, c.requires.used_bound) }
 
 pub repeat-requires : goal.repeat-requires
 repeat-requires c =
-    let a = c.args in let q = c.run_end-q in let w = c.run_length-w in
+    let a = c.args in
+    let s = source (rules_of a.set) a.bytes.now a.dir.now a.cursors.now in
+    let e = earlier a.text.now (in_rows a.rows.now) a.first a.count in
+    let q = c.run_end-q in let w = c.run_length-w in
     let some : a.p.0 < q.result.0 = omega (arith, c.if-q-p.false) in
-    let f = run_few (src (goal.at.repeat-requires c).Start) (back (goal.at.repeat-requires c).Start) a.used a.end.0 a.p.0 q.result.0 c.requires.rows c.requires.reaches c.requires.le_p.0 q.ensures some in
-    let o = ran_on_law (src (goal.at.repeat-requires c).Start) (back (goal.at.repeat-requires c).Start) a.end.0 a.p.0 q.result.0 a.len q.ensures w.result w.ensures some (omega (arith, c.if-len-w.false, c.requires.le_p)) in
+    let f = run_few s e a.used a.end.0 a.p.0 q.result.0 c.requires.rows c.requires.reaches c.requires.le_p.0 q.ensures some in
+    let o = ran_on_law s e a.end.0 a.p.0 q.result.0 a.len q.ensures w.result w.ensures some (omega (arith, c.if-len-w.false, c.requires.le_p)) in
     let z = c.requires.run_room c.if-keeping.true q.result.0 (a.len + w.result) (sym o) in
     let u = c.requires.used_bound in record {
       cursors_len = (c.requires.fact.table, (c.requires.le_p.0, (some, f.1)));
-      by_index = run_moves (src (goal.at.repeat-requires c).Start) (back (goal.at.repeat-requires c).Start) a.used a.end.0 a.p.0 q.result.0 c.requires.rows c.requires.reaches c.requires.le_p.0 q.ensures some (λ i. omega (arith, c.type_inv.dir i));
+      by_index = run_moves s e a.used a.end.0 a.p.0 q.result.0 c.requires.rows c.requires.reaches c.requires.le_p.0 q.ensures some (λ i. omega (arith, c.type_inv.dir i));
       rows = fewer_rows a.text.now (in_rows a.rows.now) a.first a.count (q.result.0 - 1) (omega (arith, f.0)) a.used (a.used + a.len) (omega arith) (omega (arith, z.0)) c.requires.rows;
-      rows_spelt = fewer_spelt a.text.now (in_rows a.rows.now) a.first a.count (q.result.0 - 1) (omega (arith, f.0)) (run_spelt (src (goal.at.repeat-requires c).Start) (back (goal.at.repeat-requires c).Start) a.used a.end.0 a.p.0 q.result.0 c.requires.rows c.requires.reaches c.requires.le_p.0 q.ensures some);
+      rows_spelt = fewer_spelt a.text.now (in_rows a.rows.now) a.first a.count (q.result.0 - 1) (omega (arith, f.0)) (run_spelt s e a.used a.end.0 a.p.0 q.result.0 c.requires.rows c.requires.reaches c.requires.le_p.0 q.ensures some);
       w_value = w.ensures;
       w_in_bounds = (omega (arith, z.0), omega (arith, u.0, c.requires.le_p, c.if-len-w.false));
       q_bound = (omega (arith, f.0, u.1.0), (u.1.1, z.1));
     }
 
-pub overflow_add-result : goal.overflow_add-result
-overflow_add-result c =
-    record { fits = omega (arith, c.if-len-w.false, c.requires.le_p) }
-
 pub returns-then-keeping : goal.returns-then-keeping
 returns-then-keeping c =
-    let a = c.args in let q = c.run_end-q in let w = c.run_length-w in
+    let a = c.args in
+    let s = source (rules_of a.set) a.bytes.now a.dir.now a.cursors.now in
+    let e = earlier a.text.now (in_rows a.rows.now) a.first a.count in
+    let m = memory a.text.now (in_rows a.rows.now) a.cursors.now in
+    let q = c.run_end-q in let w = c.run_length-w in
     let some : a.p.0 < q.result.0 = omega (arith, c.if-q-p.false) in record {
-      value = ran_on_law (src (goal.at.returns-then-keeping c).Start) (back (goal.at.returns-then-keeping c).Start) a.end.0 a.p.0 q.result.0 a.len q.ensures w.result w.ensures some (omega (arith, c.if-len-w.false, c.requires.le_p));
-      cursors_value = puts_run (back (goal.at.returns-then-keeping c).Start) a.used a.row a.p.0 a.len (mem (goal.at.returns-then-keeping c).Start) a.keeping q.result.0 w.result c.if-keeping.true some c.repeat.ensures;
+      value = ran_on_law s e a.end.0 a.p.0 q.result.0 a.len q.ensures w.result w.ensures some (omega (arith, c.if-len-w.false, c.requires.le_p));
+      cursors_value = puts_run e a.used a.row a.p.0 a.len m a.keeping q.result.0 w.result c.if-keeping.true some c.repeat.ensures;
     }
 
 pub returns : goal.returns
 returns c =
-    let a = c.args in let q = c.run_end-q in let w = c.run_length-w in record {
-      value = ran_on_law (src (goal.at.returns c).Start) (back (goal.at.returns c).Start) a.end.0 a.p.0 q.result.0 a.len q.ensures w.result w.ensures (omega (arith, c.if-q-p.false)) (omega (arith, c.if-len-w.false, c.requires.le_p));
-      cursors_value = puts_not (back (goal.at.returns c).Start) a.used a.row a.p.0 a.len (mem (goal.at.returns c).Start) a.keeping q.result.0 (a.len + w.result) c.if-keeping.false;
+    let a = c.args in
+    let s = source (rules_of a.set) a.bytes.now a.dir.now a.cursors.now in
+    let e = earlier a.text.now (in_rows a.rows.now) a.first a.count in
+    let m = memory a.text.now (in_rows a.rows.now) a.cursors.now in
+    let q = c.run_end-q in let w = c.run_length-w in record {
+      value = ran_on_law s e a.end.0 a.p.0 q.result.0 a.len q.ensures w.result w.ensures (omega (arith, c.if-q-p.false)) (omega (arith, c.if-len-w.false, c.requires.le_p));
+      cursors_value = puts_not e a.used a.row a.p.0 a.len m a.keeping q.result.0 (a.len + w.result) c.if-keeping.false;
     }

@@ -2,6 +2,7 @@ use native.Mathlib.Omega.{arith}
 use borrow.Author.Tests.{not-true, not-false}
 use mathlib.Core.Path.{refl}
 use Rattle.base.proofs.Choice.{took, left}
+use borrow.Author.Rules.{rules}
 use Rattle.runs.proofs.last.Goals as goal
 
 pub returns-then-not-known : goal.returns-then-not-known

@@ -15,73 +15,60 @@ use Rattle.tables.specs.Tables.{in_rows}
 use Rattle.tables.proofs.Rows.{numbers_below}
 use Rattle.turns.proofs.turn.Goals as goal
 
--- what the function looks at, from its entry
-abbrev Entry : Type 0
-Entry = goal.After-slice_known-3-1
-
-abbrev src : Entry → Source
-src h =
-    let a = h.args in source (rules_of a.set) a.bytes.now a.dir.now a.cursors.now
-
-abbrev back : Entry → Earlier
-back h =
-    let a = h.args in earlier a.text.now (in_rows a.rows.now) a.first a.count
-
-known : (h : Entry) →
-    Known (src h) (back h) h.args.at.used h.args.at.p.0
-known h =
-    record {
-      opened = h.requires.fact;
-      rows = h.requires.rows;
-      first = h.requires.placed.0.0.0;
-      last = h.requires.placed.0.0.1;
-      bytes = λ i. omega (arith, h.type_inv.bytes i);
-      texts = λ i. omega (arith, h.type_inv.text i);
-      numbers = numbers_below _ _ (λ i. omega (arith, h.type_inv.rows i));
-    }
-
-dir_below_law : (h : Entry) → Below (2 ^ 32) (src h).dir
-dir_below_law h i =
-    omega (arith, h.type_inv.dir i)
-
--- the step that was taken
-stepped : (x : goal.After-typed_step) →
-    x.typed_step.result ≡ step_at (src x.After-slice_known-3-1) (back x.After-slice_known-3-1) x.args.at.p.0
-stepped x =
-    step_of (src x.After-slice_known-3-1) (back x.After-slice_known-3-1) x.args.at.p.0 (x.byte_in-found.ensures (rules_of x.args.set)) x.typed_step.ensures
-
-pub typed_step-requires : goal.typed_step-requires
-typed_step-requires c = record {
-  fact = c.requires.fact;
-  rows = rows_reach c.args.at.used (back (goal.at.typed_step-requires c).After-slice_known-3-1) c.requires.rows (omega arith);
-  count_bound = (omega arith, c.requires.placed.0.0);
-}
-
 pub take-requires : goal.take-requires
 take-requires c =
-    let q = sym (stepped (goal.at.take-requires c).After-typed_step) ∙ c.in-Got.is in record {
-      inside = token_inside (src (goal.at.take-requires c).After-slice_known-3-1) (back (goal.at.take-requires c).After-slice_known-3-1) c.args.at (known (goal.at.take-requires c).After-slice_known-3-1) (dir_below_law (goal.at.take-requires c).After-slice_known-3-1) _ _ q;
+    let a = c.args in
+    let s = source (rules_of a.set) a.bytes.now a.dir.now a.cursors.now in
+    let e = earlier a.text.now (in_rows a.rows.now) a.first a.count in
+    let f = c.byte_in-found.ensures s.rules in
+    let q = sym (step_of s e a.at.p.0 f c.typed_step.ensures) ∙ c.in-Got.is in
+    let d : Below (2 ^ 32) s.dir = λ i. omega (arith, c.type_inv.dir i) in
+    let k : Known s e a.at.used a.at.p.0 =
+        record {
+          opened = c.requires.fact;
+          rows = c.requires.rows;
+          first = c.requires.placed.0.0.0;
+          last = c.requires.placed.0.0.1;
+          bytes = λ i. omega (arith, c.type_inv.bytes i);
+          texts = λ i. search rules;
+          numbers = numbers_below _ _ (λ i. search rules);
+        } in
+    record {
+      inside = token_inside s e a.at k d _ _ q;
       placed = c.requires.placed.0;
-      keepable_at = λ k. token_keeps (src (goal.at.take-requires c).After-slice_known-3-1) (back (goal.at.take-requires c).After-slice_known-3-1) c.args.at (known (goal.at.take-requires c).After-slice_known-3-1) (dir_below_law (goal.at.take-requires c).After-slice_known-3-1) _ _ q (c.byte_in-found.ensures (rules_of c.args.set)) (c.requires.room_at k);
+      keepable_at = λ h. token_keeps s e a.at k d _ _ q f (c.requires.room_at h);
     }
 
 pub returns-in-Got : goal.returns-in-Got
 returns-in-Got c =
-    let rules = rules_of c.args.set in
-    let q = sym (stepped (goal.at.returns-in-Got c).After-typed_step) ∙ c.in-Got.is in let x = c.take.ensures in record {
+    let a = c.args in
+    let s = source (rules_of a.set) a.bytes.now a.dir.now a.cursors.now in
+    let e = earlier a.text.now (in_rows a.rows.now) a.first a.count in
+    let f = c.byte_in-found.ensures s.rules in
+    let q = sym (step_of s e a.at.p.0 f c.typed_step.ensures) ∙ c.in-Got.is in let x = c.take.ensures in
+    record {
       value = turn_got _ _ _ _ q x.value;
-      cursors_value = turn_puts _ _ _ _ q (ap (type_in rules.numbers) (c.byte_in-found.ensures rules)) x.cursors_value;
+      cursors_value = turn_puts _ _ _ _ q (ap (type_in s.rules.numbers) f) x.cursors_value;
     }
 
 pub returns-in-End : goal.returns-in-End
-returns-in-End c = let q = sym (stepped (goal.at.returns-in-End c).After-typed_step) ∙ c.in-End.is in record {
-  value = turn_ends _ _ _ _ q;
-  cursors_value = end_leaves _ _ _ _ _ q;
-}
+returns-in-End c =
+    let a = c.args in
+    let s = source (rules_of a.set) a.bytes.now a.dir.now a.cursors.now in
+    let e = earlier a.text.now (in_rows a.rows.now) a.first a.count in
+    let q = sym (step_of s e a.at.p.0 (c.byte_in-found.ensures s.rules) c.typed_step.ensures) ∙ c.in-End.is in
+    record {
+      value = turn_ends _ _ _ _ q;
+      cursors_value = end_leaves _ _ _ _ _ q;
+    }
 
 pub returns-in-Refused : goal.returns-in-Refused
 returns-in-Refused c =
-    let q = sym (stepped (goal.at.returns-in-Refused c).After-typed_step) ∙ c.in-Refused.is in record {
+    let a = c.args in
+    let s = source (rules_of a.set) a.bytes.now a.dir.now a.cursors.now in
+    let e = earlier a.text.now (in_rows a.rows.now) a.first a.count in
+    let q = sym (step_of s e a.at.p.0 (c.byte_in-found.ensures s.rules) c.typed_step.ensures) ∙ c.in-Refused.is in
+    record {
       value = turn_refuses _ _ _ _ q;
       cursors_value = refusal_leaves _ _ _ _ _ q;
     }

@@ -2,11 +2,9 @@ use Prim.Native.Nat.{◌-◌}
 use mathlib.Core.Path.{◌≡◌}
 use lib.ListN.{length}
 use Rattle.numbering.specs.Types.{rules_of}
-use Rattle.values.specs.declared.Step.TheVariants as step
+use Rattle.tables.specs.Tables.{in_rows}
 use Rattle.names.specs.Keeps.{memory}
 use Rattle.walks.proofs.Walks.{Walking}
-use borrow.Author.Rules.{rules}
-use Rattle.tables.specs.Tables.{in_rows}
 use Rattle.walks.proofs.walk.Given as goal
 
 abbrev pub invariant-loop-p : goal.invariant-loop-p
