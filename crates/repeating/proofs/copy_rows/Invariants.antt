@@ -1,18 +1,13 @@
-use borrow.Author.Rules.{rules}
-use native.Mathlib.Omega.{arith}
 use Prim.Native.Nat.{◌+◌, ◌-◌, ◌≤◌, ◌<◌}
-use mathlib.Core.Path.{◌≡◌, refl, sym, ap, ◌∙◌}
+use mathlib.Core.Path.{◌≡◌}
 use lib.ListN.{length}
-use mathlib.Core.List.{List, [], ◌∷◌}
-use Rattle.tables.specs.declared.Row.{Row}
-use Rattle.tables.specs.Tables.{in_rows, row_room, row_at, put_rows}
-use Rattle.tables.proofs.Rows.{SameRows, same_room, length_put, room_numbers}
-use Rattle.repeating.specs.Repeating.{moved_row, moved_rows}
-use Rattle.repeating.proofs.Repeating.{rows_over, rows_turn, alike_more}
+use Rattle.tables.specs.Tables.{in_rows, row_at, put_rows}
+use Rattle.tables.proofs.Rows.{SameRows}
+use Rattle.repeating.specs.Repeating.{moved_rows}
 use Rattle.repeating.proofs.copy_rows.Given as goal
 
 abbrev pub invariant-loop-i : goal.invariant-loop-i
-invariant-loop-i l = 
+invariant-loop-i l =
     (l.from ≤ l.i) × ((l.i ≤ l.to) × ((l.k ≡ l.row + (l.i - l.from)) × ((length l.rows ≡ length l.initial.rows) × (SameRows (in_rows l.rows) (in_rows l.initial.rows) l.to ×
     ((l.i < l.to → l.start + (row_at (in_rows l.initial.rows) l.from).start ≡ l.at + (row_at (in_rows l.initial.rows) l.i).start) ×
     (put_rows (in_rows l.rows) l.k (moved_rows (in_rows l.initial.rows) l.i (l.to - l.i) l.start) ≡ put_rows (in_rows l.initial.rows) l.row (moved_rows (in_rows l.initial.rows) l.from (l.to - l.from) l.at)))))))

@@ -1,15 +1,12 @@
-use borrow.Author.Rules.{rules}
-use native.Mathlib.Omega.{arith}
-use Prim.Native.Nat.{ℕ, ◌+◌, ◌-◌, ◌≤◌}
-use mathlib.Core.Path.{◌≡◌, refl, ◌∙◌}
+use Prim.Native.Nat.{ℕ, ◌-◌, ◌≤◌}
+use mathlib.Core.Path.{◌≡◌}
 use lib.ListN.{length}
 use Rattle.block.specs.Block.{span_of, cursor_of}
 use Rattle.repeating.specs.Repeating.{types_past}
-use Rattle.repeating.proofs.Repeating.{types_over, types_more, type_later, length_typed}
 use Rattle.repeating.proofs.move_types.Given as goal
 
 abbrev pub invariant-loop-i : goal.invariant-loop-i
-invariant-loop-i l = 
+invariant-loop-i l =
     (l.initial.i ≤ l.i) × ((length l.cursors ≡ length l.initial.cursors) × (((j : ℕ) → l.i ≤ j → cursor_of l.cursors (span_of j 0) ≡ cursor_of l.initial.cursors (span_of j 0)) ×
     (types_past l.cursors l.i (l.stop - l.i) ≡ types_past l.initial.cursors l.initial.i (l.stop - l.initial.i))))
 

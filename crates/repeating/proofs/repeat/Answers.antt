@@ -1,7 +1,7 @@
 use native.Mathlib.Omega.{arith}
 use Prim.Native.Nat.{◌+◌, ◌-◌, ◌≤◌}
 use Rattle.tables.specs.Tables.{in_rows}
-use Rattle.repeating.proofs.Repeating.{repeat_ends, repeat_laid, repeat_fits, repeat_put_law}
+use Rattle.repeating.proofs.Repeating.{repeat_ends, repeat_fits, repeat_put_law}
 use Rattle.repeating.proofs.repeat.Goals as goal
 
 -- the run's text ends below the place that it is copied to
@@ -9,7 +9,7 @@ pub copy_within-requires : goal.copy_within-requires
 copy_within-requires c =
     let a = c.args in let r = c.requires in
     let e : c.row_in-lead.result.start + a.w ≤ a.at =
-        rw c.row_in-lead.ensures (repeat_ends a.text.now (in_rows a.rows.now) a.first a.p.0 a.q.0 a.w a.at r.rows r.rows_spelt (omega (arith, r.cursors_len)) (omega (arith, r.cursors_len)) r.w_value) in
+    rw c.row_in-lead.ensures (repeat_ends a.text.now (in_rows a.rows.now) a.first a.p.0 a.q.0 a.w a.at r.rows r.rows_spelt (omega (arith, r.cursors_len)) (omega (arith, r.cursors_len)) r.w_value) in
     (omega arith, (e, omega (arith, r.w_in_bounds.0)))
 
 pub copy_rows-requires-clause-by_index_2 : goal.copy_rows-requires-clause-by_index_2

@@ -1,9 +1,8 @@
-use borrow.Author.Rules.{rules}
 use native.Mathlib.Omega.{arith}
 use Prim.Native.Nat.{◌+◌, ◌-◌, ◌<◌}
 use mathlib.Core.Path.{sym}
-use Rattle.sources.specs.Source.{Source, source, Earlier, earlier}
-use Rattle.names.specs.Keeps.{Memory, memory}
+use Rattle.sources.specs.Source.{source, earlier}
+use Rattle.names.specs.Keeps.{memory}
 use Rattle.running.proofs.Runs.{run_few, run_spelt, run_moves, length_asks, fewer_spelt, fewer_rows, ran_none, ran_long, ran_on_law, puts_none, puts_long, puts_not, puts_run}
 use Rattle.numbering.specs.Types.{rules_of}
 use Rattle.tables.specs.Tables.{in_rows}

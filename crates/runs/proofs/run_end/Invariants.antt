@@ -1,12 +1,7 @@
-use borrow.Author.Rules.{rules}
-use native.Mathlib.Omega.{arith}
-use borrow.Author.Tests.{not-true, not-false}
-use Prim.Native.Nat.{◌+◌, ◌-◌, ◌≤◌}
-use mathlib.Core.Path.{◌≡◌, refl, sym, ap, ◌∙◌}
-use Rattle.sources.specs.Source.{Source, source}
-use Rattle.names.specs.Names.{type_in, type_at}
-use Rattle.runs.specs.Runs.{is_match, run_end}
-use Rattle.runs.proofs.Matches.{run_over, run_stops, run_more}
+use Prim.Native.Nat.{◌-◌, ◌≤◌}
+use mathlib.Core.Path.{◌≡◌}
+use Rattle.sources.specs.Source.{source}
+use Rattle.runs.specs.Runs.{run_end}
 use Rattle.numbering.specs.Types.{rules_of}
 use Rattle.runs.proofs.run_end.Given as goal
 

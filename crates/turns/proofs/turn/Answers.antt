@@ -1,11 +1,9 @@
 use native.Mathlib.Omega.{arith}
 use Prim.Native.Nat.{◌^◌}
-use mathlib.Core.Path.{◌≡◌, sym, ap, ◌∙◌}
+use mathlib.Core.Path.{sym, ap, ◌∙◌}
 use Rattle.base.specs.Every.{Below}
-use Rattle.sources.specs.Source.{Source, source, Earlier, earlier}
-use Rattle.steps.specs.Steps.{step_at}
+use Rattle.sources.specs.Source.{source, earlier}
 use Rattle.steps.proofs.Laws.{Known}
-use Rattle.repeats.proofs.Laws.{rows_reach}
 use Rattle.names.specs.Names.{type_in}
 use Rattle.names.proofs.Turns.{step_of}
 use Rattle.turns.proofs.OneTurn.{turn_got, turn_ends, turn_refuses, turn_puts, end_leaves, refusal_leaves, token_inside, token_keeps}
@@ -24,15 +22,15 @@ take-requires c =
     let q = sym (step_of s e a.at.p.0 f c.typed_step.ensures) ∙ c.in-Got.is in
     let d : Below (2 ^ 32) s.dir = λ i. omega (arith, c.type_inv.dir i) in
     let k : Known s e a.at.used a.at.p.0 =
-        record {
-          opened = c.requires.fact;
-          rows = c.requires.rows;
-          first = c.requires.placed.0.0.0;
-          last = c.requires.placed.0.0.1;
-          bytes = λ i. omega (arith, c.type_inv.bytes i);
-          texts = λ i. search rules;
-          numbers = numbers_below _ _ (λ i. search rules);
-        } in
+    record {
+      opened = c.requires.fact;
+      rows = c.requires.rows;
+      first = c.requires.placed.0.0.0;
+      last = c.requires.placed.0.0.1;
+      bytes = λ i. omega (arith, c.type_inv.bytes i);
+      texts = λ i. search rules;
+      numbers = numbers_below _ _ (λ i. search rules);
+    } in
     record {
       inside = token_inside s e a.at k d _ _ q;
       placed = c.requires.placed.0;

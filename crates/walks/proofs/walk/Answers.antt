@@ -9,7 +9,7 @@ use Rattle.sources.specs.Source.{earlier}
 use Rattle.steps.specs.Steps.{step_at}
 use Rattle.values.specs.declared.Step.TheVariants as step
 use Rattle.names.specs.Keeps.{Memory, memory}
-use Rattle.walks.proofs.Walks.{Walk, src, back, Asked, Walking, reaches_known, begins, tables, walks_over, run_asks, run_bounds, walks_run, walks_long, turn_asks, walks_on, walks_refused, walks_end, end_asks, walks_done}
+use Rattle.walks.proofs.Walks.{Walk, src, back, Asked, Walking, reaches_known, begins, walks_over, run_asks, run_bounds, walks_run, walks_long, turn_asks, walks_on, walks_refused, walks_end, end_asks, walks_done}
 use Rattle.walks.proofs.walk.Goals as goal
 use Rattle.walks.proofs.walk.Goals.{After-last-end, In-loop-p, In-On, In-On-turn, In-End}
 
@@ -80,7 +80,7 @@ run-requires-clause-run_room c =
 pub returns-in_default : goal.returns-in_default
 returns-in_default c =
     let s = (goal.at.returns-in_default c).After-last-end in
-    let r = walks_long (way s) (asked s) (here (goal.at.returns-in_default c).In-loop-p) _ _ c.loop-p.invariant.0 c.loop-p-test.true _ c.run.ensures.value c.in_default.is _ c.run.ensures.cursors_value in
+    let r = walks_long (way s) (asked s) (here (goal.at.returns-in_default c).In-loop-p) _ _ c.loop-p.invariant.0 c.loop-p-test.true c.run.result c.run.ensures.value c.in_default.is (memory c.run.new.text (in_rows c.run.new.rows) c.run.new.cursors) c.run.ensures.cursors_value in
     record { value = r.0; cursors_value = r.1 }
 
 pub turn-requires : goal.turn-requires
