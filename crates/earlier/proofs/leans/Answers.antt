@@ -8,8 +8,7 @@ returns-then-d-eq0 c = said_none _ _ _ (omega (arith, c.if-d-eq0.true)) ∙ back
 
 pub earlier_fits-requires : goal.earlier_fits-requires
 earlier_fits-requires c =
-    let n = c.if-d-eq0.false in
-    (omega (arith, c.requires.names_in_bounds, c.requires.distance_le_names), c.requires.names_in_bounds.1)
+    (omega (arith, c.if-d-eq0.false, c.requires.names_in_bounds, c.requires.distance_le_names), c.requires.names_in_bounds.1)
 
 pub returns-then-earlier_fits : goal.returns-then-earlier_fits
 returns-then-earlier_fits c =

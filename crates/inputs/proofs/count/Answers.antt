@@ -12,6 +12,12 @@ pub loop-i-init : goal.loop-i-init
 unfolding names_of
 loop-i-init c = (search rules, (search rules, search rules))
 
+pub ends_in-requires : goal.ends_in-requires
+ends_in-requires c = (omega arith, (omega arith, omega arith))
+
+pub ends_in-requires-2 : goal.ends_in-requires-2
+ends_in-requires-2 c = (omega arith, (omega arith, omega arith))
+
 pub loop-i-preserved : goal.loop-i-preserved
 loop-i-preserved c = (omega arith, (omega arith, omega arith))
 

@@ -25,7 +25,6 @@ bounds-input-end c =
 pub returns-then-input-end-ne10 : goal.returns-then-input-end-ne10
 returns-then-input-end-ne10 c =
     let l = c.loop-start in
-    let f = c.if-input-end-ne10.true in
     judged_barred c.args.input.now _ _ c.allowed_end-end.ensures l.n c.requires.input_value.0 (λ e. omega arith) ∙ l.invariant.1.1
 
 pub overflow_sub-size : goal.overflow_sub-size
@@ -35,28 +34,28 @@ overflow_sub-size c =
 pub returns-then-size-lt1 : goal.returns-then-size-lt1
 returns-then-size-lt1 c =
     let l = c.loop-start in
-    let e = allowed_name c.args.input.now _ _ c.allowed_end-end.ensures (omega (arith, c.if-input-end-ne10.false)) in
+    let e = allowed_name c.args.input.now _ _ c.allowed_end-end.ensures (omega arith) in
     judged_bad l.n _ _ _ e.first (sym (good_short _ _ _ e.low (omega (arith, e.high)) c.if-size-lt1.true)) ∙ l.invariant.1.1
 
 pub returns-then-size : goal.returns-then-size
 returns-then-size c =
     let l = c.loop-start in
-    let e = allowed_name c.args.input.now _ _ c.allowed_end-end.ensures (omega (arith, c.if-input-end-ne10.false)) in
+    let e = allowed_name c.args.input.now _ _ c.allowed_end-end.ensures (omega arith) in
     judged_bad l.n _ _ _ e.first (sym (good_long _ _ _ e.low (omega (arith, e.high)) c.if-size-lt1.false c.if-size.true)) ∙ l.invariant.1.1
 
 pub overflow_add-n : goal.overflow_add-n
 overflow_add-n c =
-    omega (arith, ap length (allowed_name c.args.input.now _ _ c.allowed_end-end.ensures (omega (arith, c.if-input-end-ne10.false))).first)
+    omega (arith, ap length (allowed_name c.args.input.now _ _ c.allowed_end-end.ensures (omega arith)).first)
 
 pub loop-start-smaller : goal.loop-start-smaller
 loop-start-smaller c =
-    let e = allowed_name c.args.input.now _ _ c.allowed_end-end.ensures (omega (arith, c.if-input-end-ne10.false)) in
+    let e = allowed_name c.args.input.now _ _ c.allowed_end-end.ensures (omega arith) in
     omega (arith, e.low, e.high)
 
 pub loop-start-preserved : goal.loop-start-preserved
 loop-start-preserved c =
     let l = c.loop-start in
-    let e = allowed_name c.args.input.now _ _ c.allowed_end-end.ensures (omega (arith, c.if-input-end-ne10.false)) in
+    let e = allowed_name c.args.input.now _ _ c.allowed_end-end.ensures (omega arith) in
     let good = sym (good_by _ _ _ e.low (omega (arith, e.high)) c.if-size-lt1.false c.if-size.false) ∙ c.allowed_end-end.ensures.allowed in
     (omega (arith, e.high), (omega (arith, ap length e.first), judged_next l.n _ _ _ e.first good ∙ l.invariant.1.1))
 

@@ -50,7 +50,8 @@ pub returns : goal.returns
 unfolding piece_at
 returns c =
     let a = c.args in
-    let e = cut_end a.name.now a.p.0 a.at c.requires.at_in_bounds.1 ∙ cut_run a.name.now a.at c.requires.at_in_bounds.0 a.p.0 c.if-p-eq-LAST.false in
-    left _ _ (ne_eqb _ _ c.if-p-eq-LAST.false)
+    let q = c.if-p-eq-LAST.false in
+    let e = cut_end a.name.now a.p.0 a.at c.requires.at_in_bounds.1 ∙ cut_run a.name.now a.at c.requires.at_in_bounds.0 a.p.0 q in
+    left _ _ (ne_eqb _ _ q)
     (left _ _ (ne_eqb _ _ (λ e. c.if-class_in-eq-DIGIT.false (c.class_in.ensures ∙ e)))
     (c.text_piece-2.ensures ∙ ap (text_piece a.name.now a.at) e))
