@@ -6,23 +6,24 @@ ghost use Rattle.answers.specs.Answers.{read_number, verdict_number};
 
 use claims::Verdict;
 use entries::Answer;
+use refusals::Refusal;
 
 pub fn answered(a: Answer, k: u32) -> u64
     ensures { result ≡ read_number k a }
 {
     match a {
-        Answer::Kept(n) => codes::pack(0, n),
-        Answer::Done => codes::pack(256, k),
-        Answer::Refused(r) => codes::refused(r),
+        Ok(Some(n)) => codes::pack(0, n),
+        Ok(None) => codes::pack(256, k),
+        Err(r) => codes::refused(r),
     }
 }
 
-pub fn judged(v: Verdict) -> u64
+pub fn judged(v: Result<Verdict, Refusal>) -> u64
     ensures { result ≡ verdict_number v }
 {
     match v {
-        Verdict::Confirmed => codes::pack(0, 1),
-        Verdict::Denied => codes::pack(0, 0),
-        Verdict::Refused(r) => codes::refused(r),
+        Ok(Verdict::Confirmed) => codes::pack(0, 1),
+        Ok(Verdict::Denied) => codes::pack(0, 0),
+        Err(r) => codes::refused(r),
     }
 }

@@ -3,10 +3,10 @@
 
 ghost use Rattle.std.specs.Prelude.{◌≡◌};
 ghost use Rattle.numbering.specs.Types.{rules_of, draft_plain};
-ghost use Rattle.opencalls.specs.Calls.{opens_left, open_call_lent};
+ghost use Rattle.opencalls.specs.Calls.{opens, open_call};
 ghost use Rattle.readcalls.specs.Calls.{reads_left, read_call_lent, block_call_lent};
-ghost use Rattle.claimcalls.specs.Calls.{claim_call_lent};
-ghost use Rattle.writecalls.specs.Calls.{writes_left, write_call_lent};
+ghost use Rattle.claimcalls.specs.Calls.{claim_call};
+ghost use Rattle.writecalls.specs.Calls.{writes, write_call};
 ghost use Rattle.modelcalls.specs.Calls.{replays_left, replay_call_lent};
 
 use block::{Kind, Mode, Setting};
@@ -25,7 +25,7 @@ pub extern "C" fn aq_open(
     cursors: &mut [u32],
     state: &mut [u32; 4],
 ) -> u64
-    ensures { opens_left result cursors.new state.new ≡ open_call_lent bytes.now dir.now count cursors.old state.old }
+    ensures { opens result cursors.new state.new ≡ open_call bytes.now dir.now count cursors.old state.old }
 {
     opencalls::open(bytes, dir, count, cursors, state)
 }
@@ -69,7 +69,7 @@ pub extern "C" fn aq_claim(
     names: &[u32],
     state: &[u32; 4],
 ) -> u64
-    ensures { result ≡ claim_call_lent number claim.now text.now names.now state.now }
+    ensures { result ≡ claim_call number claim.now text.now names.now state.now }
 {
     claimcalls::claim(number, claim, text, names, state)
 }
@@ -81,7 +81,7 @@ pub extern "C" fn aq_write(
     bytes: &mut [u8],
     totals: &mut [u32; 2],
 ) -> u64
-    ensures { writes_left result dir.new bytes.new totals.new ≡ write_call_lent (rules_of draft_plain) input.now dir.old bytes.old totals.old }
+    ensures { writes result dir.new bytes.new totals.new ≡ write_call (rules_of draft_plain) input.now dir.old bytes.old totals.old }
 {
     writecalls::write(DRAFT, input, dir, bytes, totals)
 }

@@ -4,23 +4,18 @@ use mathlib.Core.Path.{◌≡◌, sym, ap, ◌∙◌}
 use mathlib.Core.List.{List, [], ◌∷◌, ◌++◌, append_assoc}
 use native.Mathlib.Omega.{arith}
 use native.Mathlib.Nat.{add_assoc}
-use native.Mathlib.Numerals.{add-one, add-two, add-three, add-four}
+use native.Mathlib.Numerals.{add-one, add-two, add-three}
 use lib.ListN.{length, take, drop, set, get_or, length-append, length-drop, length-take, get_or-append}
 use lib.Seq.{paste-zero, sets-eq, paste, paste-suc, take-length, length-take-le, take_at, drop-append-add, drop-drop, get_or-take, get_or-drop, get_or-append-add}
 use Rattle.base.specs.Memory.{written, part}
 
-pub one_written : (l : List ℕ) (at b : ℕ) → at + 1 ≤ length l → set l at b ≡ written l at (b ∷ [])
+pub one_written : {A : Type 0} (l : List A) (at : ℕ) (b : A) → at + 1 ≤ length l → set l at b ≡ written l at (b ∷ [])
 unfolding written
 one_written l at b h = sets-eq (b ∷ []) l at h
 
 pub four_written : (l : List ℕ) (at a b c d : ℕ) → at + 4 ≤ length l → set (set (set (set l at a) (at + 1) b) (at + 2) c) (at + 3) d ≡ written l at (a ∷ b ∷ c ∷ d ∷ [])
 unfolding written
 four_written l at a b c d h = rw (add-one, add-two, add-three) (sets-eq (a ∷ b ∷ c ∷ d ∷ []) l at h)
-
-pub five_written : (l : List ℕ) (at a b c d e : ℕ) → at + 5 ≤ length l
-    → set (set (set (set (set l at a) (at + 1) b) (at + 2) c) (at + 3) d) (at + 4) e ≡ written l at (a ∷ b ∷ c ∷ d ∷ e ∷ [])
-unfolding written
-five_written l at a b c d e h = rw (add-one, add-two, add-three, add-four) (sets-eq (a ∷ b ∷ c ∷ d ∷ e ∷ []) l at h)
 
 module _ (d : List ℕ) (at : ℕ) (s : List ℕ) where
   pub length_written : at + length s ≤ length d → length (written d at s) ≡ length d
@@ -95,6 +90,9 @@ pub part_at : (s p : List ℕ) (from to j : ℕ) → part s from to ≡ p → j 
 part_at s p from to j e h = sym (get_d_part s from to j h) ∙ ap (λ (l : List ℕ). get_or l j 0) e
 
 -- a turn of the loop that copies
+pub text_step : (s d : List ℕ) (at j : ℕ) → at + length s ≤ length d → j < length s → set (paste d at s j) (at + j) (get_or s j 0) ≡ paste d at s (j + 1)
+text_step s d at j r l = paste-suc d at s j 0 (omega arith) (omega arith) ∙ ap (λ (n : ℕ). paste d at s n) (sym (add-one j))
+
 pub copy_step : (s d : List ℕ) (from to at j : ℕ) → from ≤ to → to ≤ length s → at + (to - from) ≤ length d → j < to - from
     → set (paste d at (part s from to) j) (at + j) (get_or s (from + j) 0) ≡ paste d at (part s from to) (j + 1)
 copy_step s d from to at j h k r l =

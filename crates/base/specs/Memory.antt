@@ -6,5 +6,5 @@ unfoldable pub part : List ℕ → ℕ → ℕ → List ℕ
 part s from to = take (to - from) (drop from s)
 
 -- s in the place of what stood from at on
-unfoldable pub written : List ℕ → ℕ → List ℕ → List ℕ
+unfoldable pub written : {A : Type 0} → List A → ℕ → List A → List A
 written d at s = take at d ++ s ++ drop (at + length s) d

@@ -5,56 +5,41 @@
 ghost use Rattle.std.specs.Prelude.{◌≡◌, [], ◌∷◌, ◌≤◌, ◌+◌, ◌-◌, length};
 ghost use Rattle.base.specs.Memory.{written, part};
 
-// One byte at a place.
-pub fn put_byte(buf: &mut [u8], at: usize, b: u8)
+// One element at a place.
+pub fn put<T: Copy>(buf: &mut [T], at: usize, x: T)
     requires { at + 1 ≤ length buf.old }
-    ensures { buf.new ≡ written buf.old at (b ∷ []) }
+    ensures { buf.new ≡ written buf.old at (x ∷ []) }
 {
-    buf[at] = b;
-}
-
-// One number at a place.
-pub fn put_number(table: &mut [u32], at: usize, n: u32)
-    requires { at + 1 ≤ length table.old }
-    ensures { table.new ≡ written table.old at (n ∷ []) }
-{
-    table[at] = n;
+    buf[at] = x;
 }
 
 // Five numbers at a place.
-pub fn put_five(table: &mut [u32], at: usize, a: u32, b: u32, c: u32, d: u32, e: u32)
+pub fn put_five(table: &mut [u32], at: usize, numbers: [u32; 5])
     requires { at + 5 ≤ length table.old }
-    ensures { table.new ≡ written table.old at (a ∷ b ∷ c ∷ d ∷ e ∷ []) }
+    ensures { table.new ≡ written table.old at numbers }
 {
-    table[at] = a;
-    table[at + 1] = b;
-    table[at + 2] = c;
-    table[at + 3] = d;
-    table[at + 4] = e;
-}
-
-// A part of one buffer at a place of another.
-pub fn copy_at(src: &[u8], from: usize, to: usize, dst: &mut [u8], at: usize)
-    requires { (from ≤ to) × ((to ≤ length src.now) × (at + (to - from) ≤ length dst.old)) }
-    ensures { dst.new ≡ written dst.old at (part src.now from to) }
-{
-    let n = to - from;
-    let mut j: usize = 0;
-    while j < n {
-        dst[at + j] = src[from + j];
-        j += 1;
+    for i in 0..5 {
+        table[at + i] = numbers[i];
     }
 }
 
-// A part of a buffer at a later place of the same buffer.
+// A text at a place of a buffer. Not std's `copy_from_slice`: it calls the C library.
+pub fn put_all(buf: &mut [u8], at: usize, text: &[u8])
+    requires { at + length text.now ≤ length buf.old }
+    ensures { buf.new ≡ written buf.old at text.now }
+{
+    for j in 0..text.len() {
+        buf[at + j] = text[j];
+    }
+}
+
+// A part of a buffer at a later place of the same buffer. Not `copy_within` of std, which first has to see which way the
+// part moves and takes longer for short ones.
 pub fn copy_within(buf: &mut [u8], from: usize, to: usize, at: usize)
     requires { (from ≤ to) × ((to ≤ at) × (at + (to - from) ≤ length buf.old)) }
     ensures { buf.new ≡ written buf.old at (part buf.old from to) }
 {
-    let n = to - from;
-    let mut j: usize = 0;
-    while j < n {
+    for j in 0..to - from {
         buf[at + j] = buf[from + j];
-        j += 1;
     }
 }

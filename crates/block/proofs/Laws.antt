@@ -1,5 +1,8 @@
 -- Laws of a block's directory and cursors: what the judgements tell of each span, and what opening leaves.
 use Prim.Native.Nat.{ℕ, zero, suc, ◌+◌, ◌*◌, ◌^◌, ◌≤◌, ◌<◌}
+use Rattle.refusals.specs.declared.Reason.{Reason}
+use Rattle.std.specs.Prelude.{Ok, Err, Result, ⊤}
+use Rattle.refusals.specs.declared.Reason.TheVariants as reason
 use mathlib.Core.Path.{◌≡◌, refl, sym, ap, ◌∙◌}
 use mathlib.Core.Bool.{Bool, true, false, not}
 use mathlib.Core.List.{List, ◌++◌, append-nil}
@@ -17,17 +20,33 @@ use Rattle.base.proofs.Choice.{both_true, both_of, both_left, both_right, took, 
 use Rattle.base.proofs.Numbers.{lt_or_ge}
 use Rattle.block.specs.Block.{span_of, start_of, end_of, cursor_of, span_sound, sound_from, sound, inside, all_inside, verdict, verdict_of, at_end, all_at_end, starts_from, starts, Opening, opening, open_of}
 use Rattle.block.specs.declared.State.{State}
-use Rattle.block.specs.declared.Opened.TheVariants as answer
-use Rattle.block.specs.declared.Refusal.TheVariants.{Plain}
-use Rattle.block.specs.declared.Verdict.{Verdict}
-use Rattle.block.specs.declared.Verdict.TheVariants.{Unsound, Outside, Inside}
+use Rattle.refusals.specs.declared.Refusal.TheVariants.{Plain}
 use Rattle.block.specs.Open.{Open}
 use Rattle.base.proofs.Every.{every_each, each_every, every_same}
+use Rattle.block.specs.Streams.{stream_number}
+use Rattle.block.specs.declared.Stream.{Stream}
+use Rattle.block.specs.declared.Stream.TheVariants as stream
 
 -- a position and a stream have a span of their own
 pub span_below : (p s : ℕ) → p ≤ 128 → s ≤ 9 → span_of p s < 1290
 unfolding span_of
 span_below p s h k = omega arith
+
+pub stream_below : (s : Stream) → stream_number s ≤ 9
+stream_below stream.Type = omega arith
+stream_below stream.String = omega arith
+stream_below stream.Char = omega arith
+stream_below stream.Digits0 = omega arith
+stream_below stream.Dzlen = omega arith
+stream_below stream.Dup = omega arith
+stream_below stream.Diff = omega arith
+stream_below stream.Digits = omega arith
+stream_below stream.Ddelta = omega arith
+stream_below stream.Ddelta0 = omega arith
+
+-- so a stream of a position is one of all spans
+pub span_inside : (p : ℕ) (s : Stream) → p ≤ 128 → span_of p (stream_number s) < 1290
+span_inside p s h = span_below p (stream_number s) h (stream_below s)
 
 pub span_stream : (p s q t : ℕ) → s ≤ 9 → t ≤ 9 → span_of p s ≡ span_of q t → s ≡ t
 unfolding span_of
@@ -150,48 +169,36 @@ module _ (len : ℕ) (dir cur : List ℕ) where
       both_of (every_each (inside dir cur) 1290 0 j t h k) (both_true (leb (start_of dir j) (end_of dir j)) (leb (end_of dir j) len) (every_each (span_sound len dir) 1290 0 j s h k)).1)
 
 -- what a verdict says of each judgement
-says_sound : Verdict → Bool
-says_sound Unsound = false
-says_sound Outside = true
-says_sound Inside = true
+says_unsound : (a b : Bool) → verdict a b ≡ Err reason.Unsound → a ≡ false
+unfolding pick
+says_unsound true true e = cc
+says_unsound true false e = cc
+says_unsound false b e = refl
 
-says_inside : Verdict → Bool
-says_inside Unsound = false
-says_inside Outside = false
-says_inside Inside = true
+says_outside : (a b : Bool) → verdict a b ≡ Err reason.Outside → (a ≡ true) × (b ≡ false)
+unfolding pick
+says_outside true true e = (refl, cc)
+says_outside true false e = (refl, refl)
+says_outside false b e = (cc, cc)
 
-says_sound_law : (a b : Bool) → a ≡ says_sound (verdict a b)
-unfolding pick says_sound
-says_sound_law true true = refl
-says_sound_law true false = refl
-says_sound_law false b = refl
-
-says_inside_law : (a b : Bool) → both a b ≡ says_inside (verdict a b)
-unfolding pick says_inside
-says_inside_law true true = refl
-says_inside_law true false = refl
-says_inside_law false b = refl
+says_inside : (a b : Bool) → verdict a b ≡ Ok tt → (a ≡ true) × (b ≡ true)
+unfolding pick
+says_inside true true e = (refl, refl)
+says_inside true false e = (refl, cc)
+says_inside false b e = (cc, cc)
 
 module _ (len : ℕ) (dir cur : List ℕ) where
-  judged_sound : {v : Verdict} → verdict_of len dir cur ≡ v → sound len dir cur ≡ says_sound v
+  pub verdict_unsound : verdict_of len dir cur ≡ Err reason.Unsound → sound len dir cur ≡ false
   unfolding verdict_of
-  judged_sound e = says_sound_law (sound len dir cur) (all_inside dir cur) ∙ ap says_sound e
+  verdict_unsound e = says_unsound (sound len dir cur) (all_inside dir cur) e
 
-  judged_both : {v : Verdict} → verdict_of len dir cur ≡ v → both (sound len dir cur) (all_inside dir cur) ≡ says_inside v
+  pub verdict_outside : verdict_of len dir cur ≡ Err reason.Outside → (sound len dir cur ≡ true) × (all_inside dir cur ≡ false)
   unfolding verdict_of
-  judged_both e = says_inside_law (sound len dir cur) (all_inside dir cur) ∙ ap says_inside e
+  verdict_outside e = says_outside (sound len dir cur) (all_inside dir cur) e
 
-  pub verdict_unsound : verdict_of len dir cur ≡ Unsound → sound len dir cur ≡ false
-  unfolding says_sound
-  verdict_unsound e = judged_sound e
-
-  pub verdict_outside : verdict_of len dir cur ≡ Outside → (sound len dir cur ≡ true) × (all_inside dir cur ≡ false)
-  unfolding says_sound says_inside
-  verdict_outside e = (judged_sound e, sym (pick_true (all_inside dir cur) false (judged_sound e)) ∙ judged_both e)
-
-  pub verdict_inside : verdict_of len dir cur ≡ Inside → (sound len dir cur ≡ true) × (all_inside dir cur ≡ true)
-  unfolding says_inside
-  verdict_inside e = both_true (sound len dir cur) (all_inside dir cur) (judged_both e)
+  pub verdict_inside : verdict_of len dir cur ≡ Ok tt → (sound len dir cur ≡ true) × (all_inside dir cur ≡ true)
+  unfolding verdict_of
+  verdict_inside e = says_inside (sound len dir cur) (all_inside dir cur) e
 
 module _ (bytes dir cur : List ℕ) where
   pub judged_open : sound (length bytes) dir cur ≡ true → all_inside dir cur ≡ true → Open bytes dir cur
@@ -296,16 +303,16 @@ sound_open bytes dir cur t =
 
 -- what opening does, case by case
 module _ (len : ℕ) (dir : List ℕ) (count : ℕ) (cur : List ℕ) where
-  pub opens_unsound : sound len dir cur ≡ false → opening (answer.Refused (Plain 1)) cur ≡ open_of len dir count cur
+  pub opens_unsound : sound len dir cur ≡ false → opening (Err (Plain reason.Unsound)) cur ≡ open_of len dir count cur
   unfolding open_of
   opens_unsound t = took _ _ (ap not t) refl
 
-  pub opens_many : sound len dir cur ≡ true → 65536 < count → opening (answer.Refused (Plain 12)) cur ≡ open_of len dir count cur
+  pub opens_many : sound len dir cur ≡ true → 65536 < count → opening (Err (Plain reason.BadCount)) cur ≡ open_of len dir count cur
   unfolding open_of
   opens_many t h = left _ _ (ap not t) (took _ _ (lt-ltb _ _ h) refl)
 
   pub opens_fresh : sound len dir cur ≡ true → count ≤ 65536
-      → opening (answer.Fresh (record { count = count; names = 0; text = 0; rows = 0 })) (starts dir) ≡ open_of len dir count cur
+      → opening (Ok (record { count = count; names = 0; text = 0; rows = 0 })) (starts dir) ≡ open_of len dir count cur
   unfolding open_of
   opens_fresh t h = left _ _ (ap not t) (left _ _ (le-ltb _ _ h) refl)
 
@@ -316,13 +323,13 @@ pub record Accepted (len : ℕ) (dir : List ℕ) (count : ℕ) (cur : List ℕ) 
   pub state : s ≡ record { count = count; names = 0; text = 0; rows = 0 }
   pub cursors : now ≡ starts dir
 
-pub accepted : (len : ℕ) (dir : List ℕ) (count : ℕ) (cur : List ℕ) {s : State} {now : List ℕ} → open_of len dir count cur ≡ opening (answer.Fresh s) now → Accepted len dir count cur s now
+pub accepted : (len : ℕ) (dir : List ℕ) (count : ℕ) (cur : List ℕ) {s : State} {now : List ℕ} → open_of len dir count cur ≡ opening (Ok s) now → Accepted len dir count cur s now
 accepted len dir count cur {s} {now} e =
     by_test (sound len dir cur)
     (λ t.
     ⊎_elim
     (λ (h : 65536 < count).
-    let q : answer.Refused (Plain 12) ≡ answer.Fresh s = ap (λ (o : Opening). o.answer) (opens_many len dir count cur t h ∙ e) in
+    let q : Err (Plain reason.BadCount) ≡ Ok s = ap (λ (o : Opening). o.answer) (opens_many len dir count cur t h ∙ e) in
     let z : ◌≡◌ {A = ℕ} 0 1 = cc in absurd (omega arith))
     (λ (h : count ≤ 65536).
     let r = opens_fresh len dir count cur t h ∙ e in
@@ -330,10 +337,10 @@ accepted len dir count cur {s} {now} e =
     record { judged = t; few = h; state = cc; cursors = sym (ap (λ (o : Opening). o.cursors) r) })
     (lt_or_ge 65536 count))
     (λ t.
-    let q : answer.Refused (Plain 1) ≡ answer.Fresh s = ap (λ (o : Opening). o.answer) (opens_unsound len dir count cur t ∙ e) in
+    let q : Err (Plain reason.Unsound) ≡ Ok s = ap (λ (o : Opening). o.answer) (opens_unsound len dir count cur t ∙ e) in
     let z : ◌≡◌ {A = ℕ} 0 1 = cc in absurd (omega arith))
 
-pub accepted_open : (bytes dir : List ℕ) (count : ℕ) (cur : List ℕ) {s : State} {now : List ℕ} → open_of (length bytes) dir count cur ≡ opening (answer.Fresh s) now → Open bytes dir now
+pub accepted_open : (bytes dir : List ℕ) (count : ℕ) (cur : List ℕ) {s : State} {now : List ℕ} → open_of (length bytes) dir count cur ≡ opening (Ok s) now → Open bytes dir now
 accepted_open bytes dir count cur e =
     let a = accepted (length bytes) dir count cur e in
     rw a.cursors (sound_open bytes dir cur a.judged)

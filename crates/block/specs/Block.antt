@@ -1,13 +1,17 @@
 -- A block's directory and cursors, the judgement of them (1, 13, 10), and opening.
 use Rattle.std.specs.Prelude.{ℕ, zero, suc, ◌+◌, ◌*◌, Bool, not, List, [], ◌∷◌, length, get_or, ltb, leb, eqb}
+use Rattle.refusals.specs.declared.Refusal.{Refusal}
+use Rattle.refusals.specs.declared.Reason.{Reason}
+use Rattle.std.specs.Prelude.{Ok, Err, Result, ⊤}
+use Rattle.refusals.specs.declared.Reason.TheVariants as reason
 use Rattle.base.specs.Choice.{pick, both}
 use Rattle.base.specs.Every.{each}
-use Rattle.block.specs.declared.Opened.{Opened}
-use Rattle.block.specs.declared.Opened.TheVariants as answer
-use Rattle.block.specs.declared.Refusal.TheVariants.{Plain}
+use Rattle.refusals.specs.declared.Refusal.TheVariants.{Plain}
 use Rattle.block.specs.declared.State.{State}
-use Rattle.block.specs.declared.Verdict.{Verdict}
-use Rattle.block.specs.declared.Verdict.TheVariants.{Unsound, Outside, Inside}
+
+-- the answer of opening
+abbrev pub Opened : Type 0
+Opened = Result State Refusal
 
 -- ten spans to a position, each a start and an end
 unfoldable pub span_of : ℕ → ℕ → ℕ
@@ -43,10 +47,10 @@ unfoldable pub all_inside : List ℕ → List ℕ → Bool
 all_inside dir cur = each (inside dir cur) 0 1290
 
 -- 1 comes before 13
-abbrev pub verdict : Bool → Bool → Verdict
-verdict isSound areInside = pick isSound (pick areInside Inside Outside) Unsound
+abbrev pub verdict : Bool → Bool → Result ⊤ Reason
+verdict isSound areInside = pick isSound (pick areInside (Ok tt) (Err reason.Outside)) (Err reason.Unsound)
 
-unfoldable pub verdict_of : ℕ → List ℕ → List ℕ → Verdict
+unfoldable pub verdict_of : ℕ → List ℕ → List ℕ → Result ⊤ Reason
 verdict_of len dir cur = verdict (sound len dir cur) (all_inside dir cur)
 
 -- a cursor that is not short of its end
@@ -83,6 +87,6 @@ opening a c = record { answer = a; cursors = c }
 -- opening: 1, 12; it sets each cursor to its start, notes the block's count, and sets k and both used sizes to 0
 unfoldable pub open_of : ℕ → List ℕ → ℕ → List ℕ → Opening
 open_of len dir count cur =
-    pick (not (sound len dir cur)) (opening (answer.Refused (Plain 1)) cur)
-    (pick (ltb 65536 count) (opening (answer.Refused (Plain 12)) cur)
-    (opening (answer.Fresh (state count 0 0 0)) (starts dir)))
+    pick (not (sound len dir cur)) (opening (Err (Plain reason.Unsound)) cur)
+    (pick (ltb 65536 count) (opening (Err (Plain reason.BadCount)) cur)
+    (opening (Ok (state count 0 0 0)) (starts dir)))

@@ -1,5 +1,7 @@
 -- The ten spans of a position, in the directory's order.
 use Rattle.std.specs.Prelude.{ℕ}
+use Rattle.block.specs.declared.Stream.{Stream}
+use Rattle.block.specs.declared.Stream.TheVariants as stream
 
 abbrev pub type_stream : ℕ
 type_stream = 0
@@ -30,3 +32,16 @@ ddelta_stream = 8
 
 abbrev pub ddelta0_stream : ℕ
 ddelta0_stream = 9
+
+-- which it is in that order
+abbrev pub stream_number : Stream → ℕ
+stream_number stream.Type = type_stream
+stream_number stream.String = string_stream
+stream_number stream.Char = char_stream
+stream_number stream.Digits0 = digits0_stream
+stream_number stream.Dzlen = dzlen_stream
+stream_number stream.Dup = dup_stream
+stream_number stream.Diff = diff_stream
+stream_number stream.Digits = digits_stream
+stream_number stream.Ddelta = ddelta_stream
+stream_number stream.Ddelta0 = ddelta0_stream

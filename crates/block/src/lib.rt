@@ -4,10 +4,10 @@
 
 ghost use Rattle.std.specs.Prelude.{◌≡◌, ℕ, ◌≤◌, ◌<◌, ◌+◌, ◌*◌, ◌^◌, leb, length};
 ghost use Rattle.block.specs.Block.{span_of, end_of, cursor_of, sound_from, sound, all_inside, verdict, verdict_of, all_at_end, starts, opening, open_of};
+ghost use Rattle.block.specs.Streams.{stream_number};
 
+use refusals::{Reason, Refusal};
 use spans::{Cursor, Position};
-
-pub mod stream;
 
 #[derive(Clone, Copy)]
 pub struct Block {
@@ -42,36 +42,49 @@ pub struct State {
     pub rows: u32,
 }
 
-// A refusal's number, and the number of the name that goes with it if there is one.
-#[derive(Clone, Copy)]
-pub enum Refusal {
-    Plain(u32),
-    At(u32, u32),
+// The ten spans of a position, in the directory's order.
+#[derive(Clone, Copy, PartialEq, Eq)]
+pub enum Stream {
+    Type,
+    String,
+    Char,
+    Digits0,
+    Dzlen,
+    Dup,
+    Diff,
+    Digits,
+    Ddelta,
+    Ddelta0,
 }
 
-#[derive(Clone, Copy)]
-pub enum Opened {
-    Fresh(State),
-    Refused(Refusal),
-}
-
-// A directory that meets refusal 1; a sound one with a cursor outside its span, refusal 13; or neither.
-#[derive(Clone, Copy)]
-pub enum Verdict {
-    Unsound,
-    Outside,
-    Inside,
+impl Stream {
+    fn number(self) -> u32
+        ensures { result ≡ stream_number self }
+    {
+        match self {
+            Stream::Type => 0,
+            Stream::String => 1,
+            Stream::Char => 2,
+            Stream::Digits0 => 3,
+            Stream::Dzlen => 4,
+            Stream::Dup => 5,
+            Stream::Diff => 6,
+            Stream::Digits => 7,
+            Stream::Ddelta => 8,
+            Stream::Ddelta0 => 9,
+        }
+    }
 }
 
 // Counts spans, position by position. Only `span_of` makes one, so that no other index is taken for it.
 #[derive(Clone, Copy)]
 pub struct Span(pub usize);
 
-pub fn span_of(p: Position, stream: u32) -> Span
-    requires { (p.0 ≤ 128) × (stream ≤ 9) }
-    ensures { result.0 ≡ span_of p.0 stream }
+pub fn span_of(p: Position, stream: Stream) -> Span
+    requires { p.0 ≤ 128 }
+    ensures { result.0 ≡ span_of p.0 (stream_number stream) }
 {
-    Span((Block::STREAMS * p.0 + stream) as usize)
+    Span((Block::STREAMS * p.0 + stream.number()) as usize)
 }
 
 pub fn end_of(dir: &[u32], span: Span) -> Cursor
@@ -104,12 +117,10 @@ fn spans_sound(n: u32, dir: &[u32]) -> bool
     ensures { result ≡ sound_from n dir.now 0 1290 }
 {
     let mut ok = true;
-    let mut i: usize = 0;
-    while i < Block::SPANS {
+    for i in 0..Block::SPANS {
         let start = dir[2 * i];
         let end = dir[2 * i + 1];
         ok = ok & (start <= end) & (end <= n);
-        i += 1;
     }
     ok
 }
@@ -129,38 +140,36 @@ fn sound(bytes: &[u8], dir: &[u32], cursors: &[u32]) -> bool
 
 // Both in one pass over each table: a cursor inside its span is told by two comparisons, which tell too that the span's
 // start isn't above its end. Only where a span fails is it asked, in a second pass, which of 1 and 13 it is.
-fn judge_spans(n: u32, dir: &[u32], cursors: &[u32]) -> Verdict
+fn judge_spans(n: u32, dir: &[u32], cursors: &[u32]) -> Result<(), Reason>
     requires { (length dir.now ≡ 2580) × (length cursors.now ≡ 1290) }
     ensures { result ≡ verdict (sound_from n dir.now 0 1290) (all_inside dir.now cursors.now) }
 {
     let mut fine = true;
-    let mut i: usize = 0;
-    while i < Block::SPANS {
+    for i in 0..Block::SPANS {
         let start = dir[2 * i];
         let end = dir[2 * i + 1];
         let cursor = cursors[i];
         fine = fine & (start <= cursor) & (cursor <= end) & (end <= n);
-        i += 1;
     }
     if fine {
-        return Verdict::Inside;
+        return Ok(());
     }
     if spans_sound(n, dir) {
-        Verdict::Outside
+        Err(Reason::Outside)
     } else {
-        Verdict::Unsound
+        Err(Reason::Unsound)
     }
 }
 
 // Refusals 1 and 13, in this order.
-pub fn judge(bytes: &[u8], dir: &[u32], cursors: &[u32]) -> Verdict
+pub fn judge(bytes: &[u8], dir: &[u32], cursors: &[u32]) -> Result<(), Reason>
     ensures { result ≡ verdict_of (length bytes.now) dir.now cursors.now }
 {
     if dir.len() != Block::DIRECTORY {
-        return Verdict::Unsound;
+        return Err(Reason::Unsound);
     }
     if cursors.len() != Block::SPANS {
-        return Verdict::Unsound;
+        return Err(Reason::Unsound);
     }
     judge_spans(reach(bytes), dir, cursors)
 }
@@ -171,12 +180,10 @@ pub fn at_end(dir: &[u32], cursors: &[u32]) -> bool
     ensures { result ≡ all_at_end dir.now cursors.now }
 {
     let mut ok = true;
-    let mut i: usize = 0;
-    while i < Block::SPANS {
+    for i in 0..Block::SPANS {
         let end = dir[2 * i + 1];
         let cursor = cursors[i];
         ok = ok & (cursor == end);
-        i += 1;
     }
     ok
 }
@@ -185,10 +192,8 @@ fn set_starts(dir: &[u32], cursors: &mut [u32])
     requires { (length dir.now ≡ 2580) × (length cursors.old ≡ 1290) }
     ensures { cursors.new ≡ starts dir.now }
 {
-    let mut i: usize = 0;
-    while i < Block::SPANS {
+    for i in 0..Block::SPANS {
         cursors[i] = dir[2 * i];
-        i += 1;
     }
 }
 
@@ -208,19 +213,19 @@ impl Block {
 
     pub const DIRECTORY: usize = 2580;
 
-    pub fn open(self, bytes: &[u8], dir: &[u32], cursors: &mut [u32]) -> Opened
+    pub fn open(self, bytes: &[u8], dir: &[u32], cursors: &mut [u32]) -> Result<State, Refusal>
         ensures { opening result cursors.new ≡ open_of (length bytes.now) dir.now self.count cursors.old }
     {
         let count = self.count;
         if !sound(bytes, dir, cursors) {
-            return Opened::Refused(Refusal::Plain(1));
+            return Err(Refusal::Plain(Reason::Unsound));
         }
         if Block::NAMES < count {
-            return Opened::Refused(Refusal::Plain(12));
+            return Err(Refusal::Plain(Reason::BadCount));
         }
         set_starts(dir, cursors);
-        Opened::Fresh(State {
-            count: count,
+        Ok(State {
+            count,
             names: 0,
             text: 0,
             rows: 0,

@@ -35,9 +35,7 @@ fn lean_string(name: &[u8], a: usize, e: usize, before: &[u8], u: Piece) -> Choi
             }
             Choice::Itself(Piece::String { start: a, end: e })
         }
-        Piece::Char(_) => Choice::Itself(Piece::String { start: a, end: e }),
-        Piece::Digits(_) => Choice::Itself(Piece::String { start: a, end: e }),
-        Piece::Digits0(_) => Choice::Itself(Piece::String { start: a, end: e }),
+        _ => Choice::Itself(Piece::String { start: a, end: e }),
     }
 }
 
@@ -45,15 +43,13 @@ fn lean_char(a: u8, u: Piece) -> Choice
     ensures { result ≡ lean_char a u }
 {
     match u {
-        Piece::String { start: _, end: _ } => Choice::Itself(Piece::Char(a)),
         Piece::Char(b) => {
             if a == b {
                 return Choice::Match;
             }
             Choice::Itself(Piece::Char(a))
         }
-        Piece::Digits(_) => Choice::Itself(Piece::Char(a)),
-        Piece::Digits0(_) => Choice::Itself(Piece::Char(a)),
+        _ => Choice::Itself(Piece::Char(a)),
     }
 }
 
@@ -71,10 +67,8 @@ fn lean_digits(n: u32, u: Piece) -> Choice
     ensures { result ≡ lean_digits n u }
 {
     match u {
-        Piece::String { start: _, end: _ } => Choice::Itself(Piece::Digits(n)),
-        Piece::Char(_) => Choice::Itself(Piece::Digits(n)),
         Piece::Digits(m) => by_rise(n, rises::rise_of(m, n)),
-        Piece::Digits0(_) => Choice::Itself(Piece::Digits(n)),
+        _ => Choice::Itself(Piece::Digits(n)),
     }
 }
 
@@ -93,15 +87,13 @@ fn lean_digits0(x: Padded, u: Piece) -> Choice
     ensures { result ≡ lean_digits0 x u }
 {
     match u {
-        Piece::String { start: _, end: _ } => Choice::Itself(Piece::Digits0(x)),
-        Piece::Char(_) => Choice::Itself(Piece::Digits0(x)),
-        Piece::Digits(_) => Choice::Itself(Piece::Digits0(x)),
         Piece::Digits0(y) => {
             if x.width == y.width {
                 return by_rise0(x, rises::rise_of(y.number, x.number));
             }
             Choice::Itself(Piece::Digits0(x))
         }
+        _ => Choice::Itself(Piece::Digits0(x)),
     }
 }
 

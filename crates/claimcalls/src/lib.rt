@@ -2,10 +2,10 @@
 #![tactic(auto)]
 
 ghost use Rattle.std.specs.Prelude.{◌≡◌};
-ghost use Rattle.claimcalls.specs.Calls.{claim_call_lent};
+ghost use Rattle.claimcalls.specs.Calls.{claim_call};
 
 pub fn claim(number: u32, claim: &[u8], text: &[u8], names: &[u32], state: &[u32; 4]) -> u64
-    ensures { result ≡ claim_call_lent number claim.now text.now names.now state.now }
+    ensures { result ≡ claim_call number claim.now text.now names.now state.now }
 {
     answers::judged(claims::claim(number, claim, codes::state_in(state), text, names))
 }

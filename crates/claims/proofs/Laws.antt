@@ -1,9 +1,11 @@
 -- What a claim is answered, and when: each answer has one cause, and each cause one answer.
 use Prim.Native.Nat.{ℕ, ◌≤◌, ◌<◌}
+use Rattle.std.specs.Prelude.{Ok, Err}
+use Rattle.refusals.specs.declared.Reason.TheVariants as reason
+use Rattle.claims.specs.declared.Verdict.TheVariants as verdict
 use mathlib.Core.Path.{◌≡◌, refl, sym, ◌∙◌, subst}
 use mathlib.Core.Bool.{true, false}
 use mathlib.Core.List.{List}
-use native.Mathlib.Omega.{arith}
 use borrow.Author.Tests.{lt-ltb, le-ltb, ltb-true, ltb-false}
 use lib.Dec.{ltb}
 use lib.ListN.{length}
@@ -11,37 +13,35 @@ use Rattle.comparing.specs.Same.{same}
 use Rattle.base.proofs.Choice.{took, left, by_test, never, fails}
 use Rattle.comparing.proofs.Equal.{same_equal, equal_same, same_differ, differ_same}
 use Rattle.block.specs.declared.State.{State}
-use Rattle.block.specs.declared.Refusal.TheVariants as refusal
+use Rattle.refusals.specs.declared.Refusal.TheVariants as refusal
 use Rattle.tables.specs.declared.Entry.{Entry}
 use Rattle.tables.specs.Tables.{entry_size, room, entry_at}
 use Rattle.kept.specs.Judgement.{text_counts, entry_text}
 use Rattle.kept.specs.Inside.{TextCounted, TextInside}
 use Rattle.kept.proofs.Laws.{text_counted, text_counts_of, text_inside, entry_text_of}
-use Rattle.claims.specs.declared.Verdict.{Verdict}
-use Rattle.claims.specs.declared.Verdict.TheVariants.{Confirmed, Denied, Refused}
-use Rattle.claims.specs.Claims.{name_text, claim_of}
+use Rattle.claims.specs.Claims.{Claimed, name_text, claim_of}
 use Rattle.claims.specs.Causes.{Answerable, whole_name, Cause, counts_outside, not_kept, text_outside, differs, agrees, HasCause, ConfirmedOf, DeniedOf, ElevenOf, ThirteenAtOf, ThirteenOf}
 
 module _ (number : ℕ) (claim : List ℕ) (s : State) (text names : List ℕ) where
   -- by the tests, in their order
-  pub unsound : text_counts s (length text) (room entry_size names) ≡ false → Refused (refusal.Plain 13) ≡ claim_of number claim s text names
+  pub unsound : text_counts s (length text) (room entry_size names) ≡ false → Err (refusal.Plain reason.Outside) ≡ claim_of number claim s text names
   unfolding claim_of
   unsound a = left _ _ a refl
 
-  pub unread : text_counts s (length text) (room entry_size names) ≡ true → s.names ≤ number → Refused (refusal.At 11 number) ≡ claim_of number claim s text names
+  pub unread : text_counts s (length text) (room entry_size names) ≡ true → s.names ≤ number → Err (refusal.At reason.NoSuchName number) ≡ claim_of number claim s text names
   unfolding claim_of
   unread a b = took _ _ a (left _ _ (le-ltb _ _ b) refl)
 
   module _ (a : text_counts s (length text) (room entry_size names) ≡ true) (b : number < s.names) {e : Entry} (is : e ≡ entry_at names number) where
-    pub outside : entry_text s e ≡ false → Refused (refusal.At 13 number) ≡ claim_of number claim s text names
+    pub outside : entry_text s e ≡ false → Err (refusal.At reason.Outside number) ≡ claim_of number claim s text names
     unfolding claim_of
     outside c = rw (← is) (took _ _ a (took _ _ (lt-ltb _ _ b) (left _ _ c refl)))
 
-    pub equal : entry_text s e ≡ true → same claim (name_text text e) ≡ true → Confirmed ≡ claim_of number claim s text names
+    pub equal : entry_text s e ≡ true → same claim (name_text text e) ≡ true → Ok verdict.Confirmed ≡ claim_of number claim s text names
     unfolding claim_of
     equal c d = rw (← is) (took _ _ a (took _ _ (lt-ltb _ _ b) (took _ _ c (took _ _ d refl))))
 
-    pub unequal : entry_text s e ≡ true → same claim (name_text text e) ≡ false → Denied ≡ claim_of number claim s text names
+    pub unequal : entry_text s e ≡ true → same claim (name_text text e) ≡ false → Ok verdict.Denied ≡ claim_of number claim s text names
     unfolding claim_of
     unequal c d = rw (← is) (took _ _ a (took _ _ (lt-ltb _ _ b) (took _ _ c (left _ _ d refl))))
 
@@ -82,50 +82,44 @@ cause number claim s text names =
 
 module _ (number : ℕ) (claim : List ℕ) (s : State) (text names : List ℕ) where
   -- from each answer its cause
-  of_confirmed : Cause number claim s text names Confirmed → Answerable number s text names × (claim ≡ whole_name number text names)
+  of_confirmed : Cause number claim s text names (Ok verdict.Confirmed) → Answerable number s text names × (claim ≡ whole_name number text names)
   of_confirmed (agrees t e) = (t, e)
 
-  of_denied : Cause number claim s text names Denied → Answerable number s text names × (claim ≡ whole_name number text names → ⊥)
+  of_denied : Cause number claim s text names (Ok verdict.Denied) → Answerable number s text names × (claim ≡ whole_name number text names → ⊥)
   of_denied (differs t n) = (t, n)
 
-  eleven_cause : {v : Verdict} → Cause number claim s text names v → v ≡ Refused (refusal.At 11 number) → TextCounted s text names × (s.names ≤ number)
-  eleven_cause (counts_outside n) e = cc
-  eleven_cause (not_kept t h) e = (t, h)
-  eleven_cause (text_outside t h n) e = let z : ◌≡◌ {A = ℕ} 13 11 = cc in absurd (omega arith)
-  eleven_cause (differs t n) e = cc
-  eleven_cause (agrees t n) e = cc
+  of_eleven : {v : Claimed} → Cause number claim s text names v → v ≡ Err (refusal.At reason.NoSuchName number) → TextCounted s text names × (s.names ≤ number)
+  of_eleven (counts_outside n) e = cc
+  of_eleven (not_kept t h) e = (t, h)
+  of_eleven (text_outside t h n) e = cc
+  of_eleven (differs t n) e = cc
+  of_eleven (agrees t n) e = cc
 
-  of_eleven : Cause number claim s text names (Refused (refusal.At 11 number)) → TextCounted s text names × (s.names ≤ number)
-  of_eleven c = eleven_cause c refl
+  of_thirteen_at : {v : Claimed} → Cause number claim s text names v → v ≡ Err (refusal.At reason.Outside number) → TextCounted s text names × ((number < s.names) × (TextInside s (entry_at names number) → ⊥))
+  of_thirteen_at (counts_outside n) e = cc
+  of_thirteen_at (not_kept t h) e = cc
+  of_thirteen_at (text_outside t h n) e = (t, (h, n))
+  of_thirteen_at (differs t n) e = cc
+  of_thirteen_at (agrees t n) e = cc
 
-  thirteen_at_cause : {v : Verdict} → Cause number claim s text names v → v ≡ Refused (refusal.At 13 number) → TextCounted s text names × ((number < s.names) × (TextInside s (entry_at names number) → ⊥))
-  thirteen_at_cause (counts_outside n) e = cc
-  thirteen_at_cause (not_kept t h) e = let z : ◌≡◌ {A = ℕ} 11 13 = cc in absurd (omega arith)
-  thirteen_at_cause (text_outside t h n) e = (t, (h, n))
-  thirteen_at_cause (differs t n) e = cc
-  thirteen_at_cause (agrees t n) e = cc
-
-  of_thirteen_at : Cause number claim s text names (Refused (refusal.At 13 number)) → TextCounted s text names × ((number < s.names) × (TextInside s (entry_at names number) → ⊥))
-  of_thirteen_at c = thirteen_at_cause c refl
-
-  of_thirteen : Cause number claim s text names (Refused (refusal.Plain 13)) → TextCounted s text names → ⊥
+  of_thirteen : Cause number claim s text names (Err (refusal.Plain reason.Outside)) → TextCounted s text names → ⊥
   of_thirteen (counts_outside n) = n
 
-  caused : {v : Verdict} → claim_of number claim s text names ≡ v → Cause number claim s text names v
+  caused : {v : Claimed} → claim_of number claim s text names ≡ v → Cause number claim s text names v
   caused q = subst (Cause number claim s text names) q (cause number claim s text names)
 
-  pub confirmed : claim_of number claim s text names ≡ Confirmed → Answerable number s text names × (claim ≡ whole_name number text names)
+  pub confirmed : claim_of number claim s text names ≡ Ok verdict.Confirmed → Answerable number s text names × (claim ≡ whole_name number text names)
   confirmed q = of_confirmed (caused q)
 
-  pub denied : claim_of number claim s text names ≡ Denied → Answerable number s text names × (claim ≡ whole_name number text names → ⊥)
+  pub denied : claim_of number claim s text names ≡ Ok verdict.Denied → Answerable number s text names × (claim ≡ whole_name number text names → ⊥)
   denied q = of_denied (caused q)
 
-  pub eleven : claim_of number claim s text names ≡ Refused (refusal.At 11 number) → TextCounted s text names × (s.names ≤ number)
-  eleven q = of_eleven (caused q)
+  pub eleven : claim_of number claim s text names ≡ Err (refusal.At reason.NoSuchName number) → TextCounted s text names × (s.names ≤ number)
+  eleven q = of_eleven (cause number claim s text names) q
 
-  pub thirteen_at : claim_of number claim s text names ≡ Refused (refusal.At 13 number)
+  pub thirteen_at : claim_of number claim s text names ≡ Err (refusal.At reason.Outside number)
       → TextCounted s text names × ((number < s.names) × (TextInside s (entry_at names number) → ⊥))
-  thirteen_at q = of_thirteen_at (caused q)
+  thirteen_at q = of_thirteen_at (cause number claim s text names) q
 
-  pub thirteen : claim_of number claim s text names ≡ Refused (refusal.Plain 13) → TextCounted s text names → ⊥
+  pub thirteen : claim_of number claim s text names ≡ Err (refusal.Plain reason.Outside) → TextCounted s text names → ⊥
   thirteen q = of_thirteen (caused q)

@@ -5,34 +5,40 @@
 ghost use Rattle.std.specs.Prelude.{◌≡◌};
 ghost use Rattle.claims.specs.Claims.{claim_of};
 
-use block::{Refusal, State};
+use block::State;
 use kept::judgement;
+use refusals::{Reason, Refusal};
 
-#[derive(Clone, Copy)]
+#[derive(Clone, Copy, PartialEq, Eq)]
 pub enum Verdict {
     Confirmed,
     Denied,
-    Refused(Refusal),
 }
 
-pub fn claim(number: u32, claimed: &[u8], state: State, text: &[u8], names: &[u32]) -> Verdict
+pub fn claim(
+    number: u32,
+    claimed: &[u8],
+    state: State,
+    text: &[u8],
+    names: &[u32],
+) -> Result<Verdict, Refusal>
     ensures { result ≡ claim_of number claimed.now state text.now names.now }
 {
     if !judgement::text_counts(state, text.len(), names.len()) {
-        return Verdict::Refused(Refusal::Plain(13));
+        return Err(Refusal::Plain(Reason::Outside));
     }
     if state.names <= number {
-        return Verdict::Refused(Refusal::At(11, number));
+        return Err(Refusal::At(Reason::NoSuchName, number));
     }
     let e = tables::entry_at(names, number);
     if !judgement::entry_text(state, e) {
-        return Verdict::Refused(Refusal::At(13, number));
+        return Err(Refusal::At(Reason::Outside, number));
     }
     let start = e.start as usize;
     let end = start + e.length as usize;
     if comparing::same(claimed, &text[start..end]) {
-        Verdict::Confirmed
+        Ok(Verdict::Confirmed)
     } else {
-        Verdict::Denied
+        Ok(Verdict::Denied)
     }
 }

@@ -1,5 +1,5 @@
 -- What is known of the classes of bytes.
-use Prim.Native.Nat.{ℕ, ◌+◌, ◌≤◌, ◌<◌}
+use Prim.Native.Nat.{ℕ, zero, suc, ◌+◌, ◌≤◌, ◌<◌}
 use mathlib.Core.Path.{◌≡◌, refl, sym, ap, ◌∙◌}
 use mathlib.Core.Bool.{Bool, true, false, not}
 use mathlib.Core.List.{List, [], ◌∷◌, ◌++◌}
@@ -10,13 +10,15 @@ use lib.Dec.{T, leb, eqb}
 use lib.ListN.{length, get_or}
 use Rattle.base.specs.Choice.{pick, both}
 use Rattle.base.specs.Memory.{part}
-use Rattle.base.proofs.Choice.{pick_true, pick_false, pick_either, both_true, both_of, both_left, by_test, never, fails}
+use Rattle.base.proofs.Choice.{pick_true, pick_false, pick_either, both_true, both_of, by_test, never, fails, both_left}
 use Rattle.base.proofs.Table.{rule, follows}
 use Rattle.digits.specs.Digits.{is_digit, all_digits, padded, printed}
-use Rattle.base.proofs.Every.{every_none, every_one, every_append, every_part, every_weaker}
+use Rattle.base.proofs.Every.{every_none, every_one, every_append, every_weaker, every_part}
 use Rattle.base.proofs.Lists.{part_none, part_last}
 use Rattle.digits.proofs.Laws.{digit_range, all_digits_padded, all_digits_printed}
-use Rattle.classes.specs.Classes.{is_allowed, all_allowed, is_letter, other_class, digit_class, letter_class, class_of, tabled_of, class_table, class_size}
+use Rattle.classes.specs.declared.Class.{Class}
+use Rattle.classes.specs.declared.Class.TheVariants.{Other, Digit, Letter}
+use Rattle.classes.specs.Classes.{is_allowed, all_allowed, is_letter, class_of, same_class, tabled_as, tabled_of, class_table, class_size}
 
 -- the test of the whole table, computed
 whole : T (follows tabled_of 0 class_table)
@@ -29,7 +31,7 @@ unfolding class_table
 tabled_at b h = rule tabled_of class_table whole b h
 
 -- ten digits, 52 letters and 194 others, computed
-pub sizes : class_size digit_class 256 ∷ class_size letter_class 256 ∷ class_size other_class 256 ∷ [] ≡ 10 ∷ 52 ∷ 194 ∷ []
+pub sizes : class_size Digit 256 ∷ class_size Letter 256 ∷ class_size Other 256 ∷ [] ≡ 10 ∷ 52 ∷ 194 ∷ []
 unfolding class_size class_of is_letter is_digit pick
 sizes = refl
 
@@ -72,40 +74,72 @@ letter_no_digit b e = fails (λ d.
 
 -- The three classes
 
-pub class_digit : (b : ℕ) → is_digit b ≡ true → class_of b ≡ digit_class
+pub class_digit : (b : ℕ) → is_digit b ≡ true → class_of b ≡ Digit
 unfolding class_of
-class_digit b e = pick_true 1 (pick (is_letter b) 2 0) e
+class_digit b e = pick_true _ _ e
 
-pub class_letter : (b : ℕ) → is_letter b ≡ true → class_of b ≡ letter_class
+pub class_letter : (b : ℕ) → is_letter b ≡ true → class_of b ≡ Letter
 unfolding class_of
-class_letter b e = pick_false 1 (pick (is_letter b) 2 0) (letter_no_digit b e) ∙ pick_true 2 0 e
+class_letter b e = pick_false _ _ (letter_no_digit b e) ∙ pick_true _ _ e
 
-pub class_other : (b : ℕ) → is_digit b ≡ false → is_letter b ≡ false → class_of b ≡ other_class
+pub class_other : (b : ℕ) → is_digit b ≡ false → is_letter b ≡ false → class_of b ≡ Other
 unfolding class_of
-class_other b d e = pick_false 1 (pick (is_letter b) 2 0) d ∙ pick_false 2 0 e
+class_other b d e = pick_false _ _ d ∙ pick_false _ _ e
 
-pub digit_class_law : (b : ℕ) → class_of b ≡ digit_class → is_digit b ≡ true
+pub digit_class_law : (b : ℕ) → class_of b ≡ Digit → is_digit b ≡ true
 digit_class_law b e = by_test (is_digit b) (λ d. d) (λ d. by_test (is_letter b)
-    (λ l. absurd (omega (arith, class_letter b l)))
-    (λ l. absurd (omega (arith, class_other b d l))))
+    (λ l. cc (class_letter b l))
+    (λ l. cc (class_other b d l)))
 
-pub letter_class_law : (b : ℕ) → class_of b ≡ letter_class → is_letter b ≡ true
+pub letter_class_law : (b : ℕ) → class_of b ≡ Letter → is_letter b ≡ true
 letter_class_law b e = by_test (is_letter b) (λ l. l) (λ l. by_test (is_digit b)
-    (λ d. absurd (omega (arith, class_digit b d)))
-    (λ d. absurd (omega (arith, class_other b d l))))
+    (λ d. cc (class_digit b d))
+    (λ d. cc (class_other b d l)))
+
+-- Two classes are one
+
+pub same_true : (a b : Class) → same_class a b ≡ true → a ≡ b
+same_true Other Other e = refl
+same_true Other Digit e = cc
+same_true Other Letter e = cc
+same_true Digit Other e = cc
+same_true Digit Digit e = refl
+same_true Digit Letter e = cc
+same_true Letter Other e = cc
+same_true Letter Digit e = cc
+same_true Letter Letter e = refl
+
+same_refl : (a : Class) → same_class a a ≡ true
+same_refl Other = refl
+same_refl Digit = refl
+same_refl Letter = refl
+
+pub same_of : (a b : Class) → a ≡ b → same_class a b ≡ true
+same_of a b e = rw e (same_refl b)
+
+pub same_false : (a b : Class) → same_class a b ≡ false → a ≡ b → ⊥
+same_false a b e f = never (sym e ∙ same_of a b f)
+
+pub same_not : (a b : Class) → (a ≡ b → ⊥) → same_class a b ≡ false
+same_not a b f = fails (λ e. f (same_true a b e))
 
 -- What is tabled
 
 tabled_barred : (b : ℕ) → is_allowed b ≡ false → tabled_of b ≡ 0
 unfolding tabled_of
-tabled_barred b e = pick_false (class_of b + 1) 0 e
+tabled_barred b e = pick_false _ _ e
 
-pub tabled_allowed : (b : ℕ) → is_allowed b ≡ true → tabled_of b ≡ class_of b + 1
+pub tabled_allowed : (b : ℕ) → is_allowed b ≡ true → tabled_of b ≡ tabled_as (class_of b)
 unfolding tabled_of
-tabled_allowed b e = pick_true (class_of b + 1) 0 e
+tabled_allowed b e = pick_true _ _ e
+
+some_tabled : (k : Class) → 0 < tabled_as k
+some_tabled Other = omega arith
+some_tabled Digit = omega arith
+some_tabled Letter = omega arith
 
 pub barred_tabled : (b : ℕ) → tabled_of b ≡ 0 → is_allowed b ≡ false
-barred_tabled b e = by_test (is_allowed b) (λ a. absurd (omega (arith, tabled_allowed b a))) (λ a. a)
+barred_tabled b e = by_test (is_allowed b) (λ a. absurd (omega (arith, tabled_allowed b a, some_tabled (class_of b)))) (λ a. a)
 
 pub allowed_tabled : (b : ℕ) → (tabled_of b ≡ 0 → ⊥) → is_allowed b ≡ true
 allowed_tabled b f = by_test (is_allowed b) (λ a. a) (λ a. absurd (f (tabled_barred b a)))
@@ -117,10 +151,36 @@ told_allowed b {t} q = by_test (eqb t 0)
     (λ z. ap not z ∙ sym (allowed_tabled b (λ e. eqb-false t 0 z (q ∙ e))))
 
 -- digits and letters are allowed, so that any other byte is of the class of others
-pub barred_class : (b : ℕ) → is_allowed b ≡ false → class_of b ≡ other_class
+pub barred_class : (b : ℕ) → is_allowed b ≡ false → class_of b ≡ Other
 barred_class b e =
     let other : (f : ℕ → Bool) → (f b ≡ true → is_allowed b ≡ true) → f b ≡ false = λ f g. fails (λ t. never (sym e ∙ g t)) in
     class_other b (other is_digit (digit_allowed b)) (other is_letter (letter_allowed b))
+
+-- so that the class of every byte is had back from what is tabled
+unfoldable pub told : ℕ → Class
+told (suc (suc zero)) = Digit
+told (suc (suc (suc zero))) = Letter
+told _ = Other
+
+told_back : (k : Class) → told (tabled_as k) ≡ k
+unfolding told
+told_back Other = refl
+told_back Digit = refl
+told_back Letter = refl
+
+pub told_class : (b : ℕ) {t : ℕ} → t ≡ tabled_of b → told t ≡ class_of b
+unfolding told
+told_class b q = by_test (is_allowed b)
+    (λ a. ap told (q ∙ tabled_allowed b a) ∙ told_back (class_of b))
+    (λ a. ap told (q ∙ tabled_barred b a) ∙ sym (barred_class b a))
+
+pub told_other : (t : ℕ) → (t ≡ 2 → ⊥) → (t ≡ 3 → ⊥) → told t ≡ Other
+unfolding told
+told_other zero f g = refl
+told_other (suc zero) f g = refl
+told_other (suc (suc zero)) f g = absurd (f refl)
+told_other (suc (suc (suc zero))) f g = absurd (g refl)
+told_other (suc (suc (suc (suc t)))) f g = refl
 
 -- Lists of them
 
@@ -142,11 +202,6 @@ allowed_printed n = allowed_digits (printed n) (all_digits_printed n)
 
 pub allowed_padded : (n w : ℕ) → all_allowed (padded n w) ≡ true
 allowed_padded n w = allowed_digits (padded n w) (all_digits_padded n w)
-
--- what is left of a part decides as the whole does
-pub record Passed (s : List ℕ) (from to i : ℕ) : Type 0 where
-  pub within : i ≤ to
-  pub rest : all_allowed (part s i to) ≡ all_allowed (part s from to)
 
 -- a turn of a loop over a part
 module _ (s : List ℕ) (i to : ℕ) (h : i < to) (k : to ≤ length s) where

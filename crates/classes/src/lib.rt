@@ -3,8 +3,7 @@
 // Reading asks only what SAM allows and holds no table: it compares.
 #![tactic(auto)]
 
-ghost use Rattle.std.specs.Prelude.{◌≡◌, ◌≤◌, leb, length};
-ghost use Rattle.base.specs.Choice.{both};
+ghost use Rattle.std.specs.Prelude.{◌≡◌, ◌≤◌, length};
 ghost use Rattle.base.specs.Memory.{part};
 ghost use Rattle.classes.specs.Classes.{is_allowed, class_of, tabled_of, class_table, all_allowed};
 
@@ -13,14 +12,19 @@ mod entries;
 use crate::entries::CLASSES;
 
 // The three classes.
-pub const OTHER: u8 = 0;
+#[derive(Clone, Copy, PartialEq, Eq)]
+pub enum Class {
+    Other,
+    Digit,
+    Letter,
+}
 
-pub const DIGIT: u8 = 1;
-
-pub const LETTER: u8 = 2;
-
-// What is tabled of a byte that SAM does not allow; of any other it is the class and 1.
+// What is tabled of a byte that SAM does not allow, of a digit and of a letter; of any other byte it is 1.
 const BARRED: u8 = 0;
+
+const DIGIT: u8 = 2;
+
+const LETTER: u8 = 3;
 
 // The table, to be lent.
 pub fn table() -> [u8; 256]
@@ -47,12 +51,15 @@ pub fn tabled(b: u8) -> u8
 }
 
 // A byte's class by the table.
-pub fn class_in(table: &[u8; 256], b: u8) -> u8
+pub fn class_in(table: &[u8; 256], b: u8) -> Class
     requires { table.now ≡ class_table }
     ensures { result ≡ class_of b }
 {
-    let t = tabled_in(table, b);
-    if t == BARRED { OTHER } else { t - 1 }
+    match tabled_in(table, b) {
+        DIGIT => Class::Digit,
+        LETTER => Class::Letter,
+        _ => Class::Other,
+    }
 }
 
 // A byte is one that SAM allows, by the table.
@@ -63,33 +70,20 @@ pub fn allowed_in(table: &[u8; 256], b: u8) -> bool
     tabled_in(table, b) != BARRED
 }
 
-fn between(low: u8, b: u8, high: u8) -> bool
-    ensures { result ≡ both (leb low b) (leb b high) }
-{
-    if low <= b { b <= high } else { false }
-}
-
-// SAM's rule by comparison.
+// SAM's rule by comparison. Not a pattern: its arms are jumps that follow the byte, and a test of two ranges has none.
+#[tactic(auto, unfolding(crate::specs::Classes::is_allowed, base::specs::Choice::pick))]
 pub fn is_allowed(b: u8) -> bool
     ensures { result ≡ is_allowed b }
 {
-    if between(33, b, 63) {
-        true
-    } else {
-        between(65, b, 126)
-    }
+    (33..=63).contains(&b) || (65..=126).contains(&b)
 }
 
-// Every byte of a part is one that SAM allows, by comparison.
-pub fn all_allowed(bytes: &[u8], from: usize, to: usize) -> bool
-    requires { (from ≤ to) × (to ≤ length bytes.now) }
-    ensures { result ≡ all_allowed (part bytes.now from to) }
+// Every byte is one that SAM allows, by comparison.
+pub fn all_allowed(bytes: &[u8]) -> bool
+    ensures { result ≡ all_allowed bytes.now }
 {
-    let mut i = from;
-    while i < to {
-        if is_allowed(bytes[i]) {
-            i += 1;
-        } else {
+    for b in bytes {
+        if !is_allowed(*b) {
             return false;
         }
     }

@@ -5,20 +5,21 @@ use native.Mathlib.Omega.{arith}
 use lib.ListN.{length, length-append}
 use Rattle.digits.specs.Digits.{printed}
 use Rattle.digits.proofs.Laws.{printed_short}
-use Rattle.block.specs.declared.Refusal.{Refusal}
-use Rattle.block.specs.declared.Refusal.TheVariants.{Plain, At}
+use Rattle.refusals.specs.Refusals.{number_of}
+use Rattle.refusals.specs.declared.Refusal.{Refusal}
+use Rattle.refusals.specs.declared.Refusal.TheVariants.{Plain, At}
 use Rattle.texts.specs.Words.{newline, refused_word, at_word, names_word, bytes_word}
 use Rattle.closing.specs.Closing.{refusal_text, totals_text}
 use Rattle.pages.proofs.Pages.{labelled}
 
 pub refusal_short : (r : Refusal) → length (refusal_text r) ≤ 100
 unfolding refusal_text refused_word at_word newline
-refusal_short (Plain n) = omega (arith, length-append (refused_word ++ printed n) newline, labelled refused_word n)
-refusal_short (At n k) = omega (
+refusal_short (Plain r) = omega (arith, length-append (refused_word ++ printed (number_of r)) newline, labelled refused_word (number_of r))
+refusal_short (At r k) = omega (
   arith,
-  length-append (refused_word ++ printed n) ((at_word ++ printed k) ++ newline),
+  length-append (refused_word ++ printed (number_of r)) ((at_word ++ printed k) ++ newline),
   length-append (at_word ++ printed k) newline,
-  labelled refused_word n,
+  labelled refused_word (number_of r),
   labelled at_word k,
 )
 

@@ -5,19 +5,19 @@ ghost use Rattle.std.specs.Prelude.{◌≡◌};
 ghost use Rattle.pages.specs.Page.{page, said, HasRoom};
 ghost use Rattle.closing.specs.Closing.{refusal_text, totals_text};
 
-use block::Refusal;
+use refusals::Refusal;
 
 pub fn put_refusal(out: &mut [u8], at: usize, r: Refusal) -> usize
     requires { HasRoom (refusal_text r) (page out.old at) }
     ensures { page out.new result ≡ said (refusal_text r) (page out.old at) }
 {
     match r {
-        Refusal::Plain(n) => {
-            let next = pages::put_labelled(out, at, b"refused ", n);
+        Refusal::Plain(reason) => {
+            let next = pages::put_labelled(out, at, b"refused ", reason.number());
             pages::put(out, next, b"\n")
         }
-        Refusal::At(n, name) => {
-            let next = pages::put_labelled(out, at, b"refused ", n);
+        Refusal::At(reason, name) => {
+            let next = pages::put_labelled(out, at, b"refused ", reason.number());
             let last = pages::put_labelled(out, next, b" at ", name);
             pages::put(out, last, b"\n")
         }

@@ -2,8 +2,9 @@
 -- The low 32 bits are the code (0, the refusal's number, or 256 for "done"), the high 32 bits the value.
 use Rattle.std.specs.Prelude.{ℕ, ◌+◌, ◌*◌, ◌^◌, ◌<◌, ◌≡◌, List, [], ◌∷◌, get_or}
 use Rattle.block.specs.declared.State.{State}
-use Rattle.block.specs.declared.Refusal.{Refusal}
-use Rattle.block.specs.declared.Refusal.TheVariants as refusal
+use Rattle.refusals.specs.declared.Refusal.{Refusal}
+use Rattle.refusals.specs.declared.Refusal.TheVariants as refusal
+use Rattle.refusals.specs.Refusals.{number_of}
 
 unfoldable pub packed : ℕ → ℕ → ℕ
 packed code value = code + 2 ^ 32 * value
@@ -17,8 +18,8 @@ abbrev pub no_name : ℕ
 no_name = 4294967295
 
 unfoldable pub refusal_number : Refusal → ℕ
-refusal_number (refusal.Plain r) = packed r no_name
-refusal_number (refusal.At r n) = packed r n
+refusal_number (refusal.Plain r) = packed (number_of r) no_name
+refusal_number (refusal.At r n) = packed (number_of r) n
 
 -- the state as four numbers
 unfoldable pub state_in : List ℕ → State

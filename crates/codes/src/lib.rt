@@ -4,7 +4,8 @@
 ghost use Rattle.std.specs.Prelude.{◌≡◌};
 ghost use Rattle.codes.specs.Codes.{packed, refusal_number, state_in, state_out};
 
-use block::{Refusal, State};
+use block::State;
+use refusals::Refusal;
 
 const NO_NAME: u32 = 4294967295;
 
@@ -19,8 +20,8 @@ pub fn refused(r: Refusal) -> u64
     ensures { result ≡ refusal_number r }
 {
     match r {
-        Refusal::Plain(number) => pack(number, NO_NAME),
-        Refusal::At(number, name) => pack(number, name),
+        Refusal::Plain(reason) => pack(reason.number(), NO_NAME),
+        Refusal::At(reason, name) => pack(reason.number(), name),
     }
 }
 

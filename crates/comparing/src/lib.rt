@@ -7,6 +7,7 @@ ghost use Rattle.comparing.specs.Same.{same};
 // The lengths first: bytes that agree up to the shorter one are not the same. Then the last byte, where most names that
 // follow each other differ. From there on there is no way out: texts that come so far are mostly the same, and a loop
 // without one takes many bytes at once.
+// Not a zip: getting its two iterators ready takes a few instructions more.
 pub fn same(a: &[u8], b: &[u8]) -> bool
     ensures { result ≡ same a.now b.now }
 {
@@ -21,10 +22,8 @@ pub fn same(a: &[u8], b: &[u8]) -> bool
         return false;
     }
     let mut equal = true;
-    let mut i: usize = 0;
-    while i < n {
-        equal = equal & (a[i] == b[i]);
-        i += 1;
+    for i in 0..n {
+        equal &= a[i] == b[i];
     }
     equal
 }

@@ -1,5 +1,6 @@
 -- Rule 3, with room for the name and without: what the code leaves is what the definitions say.
 use Prim.Native.Nat.{ℕ, ◌+◌, ◌-◌, ◌*◌, ◌≤◌}
+use Rattle.refusals.specs.declared.Reason.TheVariants as reason
 use mathlib.Core.Path.{◌≡◌, refl, sym, ap, ◌∙◌}
 use mathlib.Core.Bool.{true, false}
 use mathlib.Core.List.{List, [], ◌∷◌}
@@ -37,7 +38,7 @@ module _ (bytes dir cur text names : List ℕ) (rows : Table) (st : State) where
 
 module _ (rules : Rules) (bytes dir cur text names : List ℕ) (rows : Table) (st : State) where
   module _ (x : Entry) (distance : ℕ) (i : TextInside st x) (k : Counted (keeping st text names rows)) where
-    pub dup_refused : {r : Reading} → room_of (keeping st text names rows) x.length 0 ≡ false → r ≡ refusing st 9
+    pub dup_refused : {r : Reading} → room_of (keeping st text names rows) x.length 0 ≡ false → r ≡ refusing st reason.NoRoom
         → outcome r.answer cur (keeping r.state text names rows) ≡ dup_of (source rules bytes dir cur) (keeping st text names rows) distance x
     unfolding dup_of
     dup_refused h q = keep_refused rules bytes dir cur text names rows st _ x.first x.rows distance x.length 0 (part_length bytes dir cur text names rows st x distance i k) refl h q

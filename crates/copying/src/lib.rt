@@ -10,8 +10,9 @@ ghost use Rattle.heads.specs.Headed.{Passable};
 ghost use Rattle.copying.specs.Copies.{dup_of, leaves_rows};
 ghost use Rattle.block.specs.Streams.{dup_stream};
 
-use block::{State, stream};
+use block::{State, Stream};
 use entries::Reading;
+use refusals::Reason;
 use spans::Distance;
 use tables::Entry;
 
@@ -36,10 +37,10 @@ pub fn copied(
         let at = state.text as usize;
         let size = bytes as usize;
         base::copy_within(text, from, from + size, at);
-        base::put_byte(text, at + size, 10);
-        heads::move_head(cursors, stream::DUP);
+        base::put(text, at + size, 10);
+        heads::move_head(cursors, Stream::Dup);
         entries::enter(entries, state, bytes, 0, e.first, e.rows, distance)
     } else {
-        outcomes::refuse(9, state)
+        outcomes::refuse(Reason::NoRoom, state)
     }
 }

@@ -4,6 +4,7 @@ use mathlib.Core.Path.{◌≡◌, refl, ◌∙◌}
 use mathlib.Core.Bool.{true}
 use mathlib.Core.List.{List, [], ◌∷◌, ◌++◌}
 use native.Mathlib.Omega.{arith}
+use Rattle.refusals.specs.declared.Reason.TheVariants as reason
 use Rattle.base.specs.Choice.{pick}
 use Rattle.base.specs.Memory.{part, written}
 use Rattle.comparing.specs.Same.{same}
@@ -90,7 +91,7 @@ computed = (
           (
             three (first _ _ refl refl) (first _ _ refl refl) (first _ _ refl refl),
             (
-              rw (first (alone (Match ∷ []) [] []) (refused_at 5 0 []) refl refl),
+              rw (first (alone (Match ∷ []) [] []) (refused_at reason.NoRow 0 []) refl refl),
               (
                 four_of_law (fourth _ _ refl refl) (fourth _ _ refl refl) (fourth _ _ refl refl) (fourth _ _ refl refl),
                 (

@@ -1,6 +1,15 @@
 -- The demands at the C boundary: what a number tells, what a call that is refused leaves, what a whole-block read leaves and answers, one outcome only,
 -- demand 3, and a name that starts afresh (C-11).
 use Prim.Native.Nat.{ℕ, ◌^◌, ◌≤◌, ◌<◌}
+use Rattle.entries.specs.Entries.{Answer}
+use Rattle.claims.specs.Claims.{Claimed}
+use Rattle.writing.specs.Writes.{WriteAnswer}
+use Rattle.std.specs.Option.{unwrap_or}
+use Rattle.std.specs.Prelude.{Option, Some, Ok, Err}
+use Rattle.refusals.specs.declared.Reason.{Reason}
+use Rattle.refusals.specs.Refusals.{number_of}
+use Rattle.refusals.proofs.Laws.{reason_back, one_reason, number_between}
+use Rattle.refusals.specs.declared.Reason.TheVariants as reason
 use mathlib.Core.Path.{◌≡◌, refl, sym, ap, ◌∙◌, subst}
 use mathlib.Core.List.{List, [], ◌∷◌}
 use mathlib.Core.Logic.{◌⊎◌, inl, inr, ⊎_elim}
@@ -14,25 +23,18 @@ use Rattle.base.proofs.Choice.{by_test}
 use Rattle.comparing.proofs.Equal.{same_equal, differ_same}
 use Rattle.base.proofs.Numbers.{lt_or_ge}
 use Rattle.block.specs.declared.State.{State}
-use Rattle.block.specs.declared.Refusal.{Refusal}
-use Rattle.block.specs.declared.Refusal.TheVariants as refusal
-use Rattle.block.specs.declared.Opened.TheVariants as opened
+use Rattle.refusals.specs.declared.Refusal.{Refusal}
+use Rattle.refusals.specs.declared.Refusal.TheVariants as refusal
 use Rattle.block.specs.Block.{Opening, opening, open_of, starts, state}
 use Rattle.tables.specs.Tables.{Kept, keeping, Table}
 use Rattle.numbering.specs.Types.{Rules}
 use Rattle.sources.specs.Source.{Source, source}
-use Rattle.entries.specs.declared.Answer.{Answer}
-use Rattle.entries.specs.declared.Answer.TheVariants as answer
 use Rattle.outcomes.specs.Outcomes.{Outcome, outcome}
 use Rattle.outcomes.specs.Keeping.{kept}
 use Rattle.reading.specs.Blocks.{opened_of, block_of}
-use Rattle.claims.specs.declared.Verdict.{Verdict}
-use Rattle.claims.specs.declared.Verdict.TheVariants as verdict
 use Rattle.claims.specs.Causes as causes
 use Rattle.claims.specs.Causes.{Cause}
 use Rattle.claims.proofs.Laws.{cause}
-use Rattle.writing.specs.declared.WriteAnswer.{WriteAnswer}
-use Rattle.writing.specs.declared.WriteAnswer.TheVariants as written
 use Rattle.writing.specs.Writes.{Writing, write_of}
 use Rattle.codes.specs.Codes.{packed, no_name, refusal_number, state_in, state_out}
 use Rattle.opencalls.specs.Calls.{opened_number}
@@ -48,10 +50,10 @@ use Rattle.demands.specs.Runs.{Lent, lent, read, left, Fresh, Keeps, Call, readi
 use Rattle.demands.specs.Refusals as cases
 use Rattle.demands.specs.Refusals.{OpenCase, WriteCase, Why, ReadCase, refuses, ends, keeps}
 use Rattle.demands.specs.Right.{Judged, Sane, left_over, by_rules, Demand3}
-use Rattle.demands.specs.Boundary.{Stopped, StateBack, OpenCallStopped, OpenCallStops, ReadCallStopped, ReadCallStops, WriteCallStopped, WriteCallStops, BlockCallStopped, NumberTells, SameAnswer, told_refusal, told_read, told_opening, told_verdict, told_writing, OpeningTold, ReadTold, BlockTold, VerdictTold, WritingTold, begun, lent_from, call_on, calls_on, KeepCalls, no_call, next_call, WholeCall, BlockCallReads, StopSays, says_done, says_left_over, says_by_rules, Faultless, BlockSays, BlockCallSays, ReadCallSays, claim_on, JudgedCall, Demand3Call, EachCall, CallsDemand3, BlockCallsDemand3, CallsEach, BlockCallsEach, AfreshCall, OneOpenCall, OneReadCall, OneBlockCall, OneClaimCall, OneWriteCall}
+use Rattle.demands.specs.Boundary.{IsCode, Stopped, StateBack, OpenCallStopped, OpenCallStops, ReadCallStopped, ReadCallStops, WriteCallStopped, WriteCallStops, BlockCallStopped, NumberTells, SameAnswer, told_reason, told_refusal, told_read, told_opening, told_verdict, told_writing, OpeningTold, ReadTold, BlockTold, VerdictTold, WritingTold, begun, lent_from, call_on, calls_on, KeepCalls, no_call, next_call, WholeCall, BlockCallReads, StopSays, says_done, says_left_over, says_by_rules, Faultless, BlockSays, BlockCallSays, ReadCallSays, claim_on, JudgedCall, Demand3Call, EachCall, CallsDemand3, BlockCallsDemand3, CallsEach, BlockCallsEach, AfreshCall, OneOpenCall, OneReadCall, OneBlockCall, OneClaimCall, OneWriteCall}
 use Rattle.demands.specs.Untouched.{Whole}
 use Rattle.demands.proofs.Lemmas.Ways.{read_case}
-use Rattle.demands.proofs.Refusals.{open_case, write_case, by_reason}
+use Rattle.demands.proofs.Refusals.{open_case, write_case}
 use Rattle.demands.proofs.Untouched.{block_refused, block_reads}
 use Rattle.demands.proofs.Unwritten.{write_refused}
 use Rattle.demands.proofs.Demand3.{read_or_not, plain_reads, demand_3, block_demand_3}
@@ -73,58 +75,67 @@ unfolding packed
 not_stopped v h = omega (arith, h.is, h.some, h.low)
 
 -- a refusal's number is another code
-numbered : (r v : ℕ) → 1 ≤ r → r ≤ 13 → Stopped (packed r v)
-numbered r v h k = record { code = r; value = v; is = refl; some = h; low = omega (arith, k) }
+numbered : (r : Reason) (v : ℕ) → Stopped (packed (number_of r) v)
+numbered r v = let b = number_between r in record { code = number_of r; value = v; is = refl; some = b.0; low = omega (arith, b.1) }
+
+refusal_stopped : (q : Refusal) → Stopped (refusal_number q)
+unfolding refusal_number
+refusal_stopped (refusal.Plain r) = numbered r no_name
+refusal_stopped (refusal.At r n) = numbered r n
 
 -- What a number tells
 
-pub tells_of : {A : Type 0} (told : ℕ → ℕ → A) {a : A} (code value : ℕ) → code < 2 ^ 32 → a ≡ told code value → NumberTells (packed code value) told a
-tells_of told code value h e = record { code = code; value = value; low = h; is = refl; one = λ c v k q. packed_one c v code value k h (sym q); tells = e }
+pub tells_of : {A : Type 0} (told : ℕ → ℕ → A) {a : A} (code value : ℕ) → code < 2 ^ 32 → IsCode code → a ≡ told code value → NumberTells (packed code value) told a
+tells_of told code value h k e = record { code = code; value = value; low = h; is = refl; known = k; one = λ c v l q. packed_one c v code value l h (sym q); tells = e }
 
 pub same_answer : {A : Type 0} {told : ℕ → ℕ → A} {a b : A} → SameAnswer told a b
 same_answer {told = told} m n x y e =
     let q : (y.code ≡ x.code) × (y.value ≡ x.value) = x.one y.code y.value y.low (e ∙ y.is) in
     x.tells ∙ sym (y.tells ∙ ap (λ (c : ℕ). told c y.value) q.0 ∙ ap (told x.code) q.1)
 
-pub told_plain : (r : ℕ) → (r ≡ 11 → ⊥) → refusal.Plain r ≡ told_refusal r no_name
-unfolding told_refusal
-told_plain r h = choice.left _ _ (ne_eqb r 11 h) (choice.took _ _ (eq-eqb no_name no_name refl) refl)
+told_back : (r : Reason) → r ≡ told_reason (number_of r)
+unfolding told_reason
+told_back r = sym (ap (λ (x : Option Reason). unwrap_or x reason.Unsound) (reason_back r))
 
-told_name : (r n : ℕ) → (n ≡ no_name → ⊥) → refusal.At r n ≡ told_refusal r n
+pub told_plain : (r : Reason) → (r ≡ reason.NoSuchName → ⊥) → refusal.Plain r ≡ told_refusal (number_of r) no_name
 unfolding told_refusal
-told_name r n h = by_test (eqb r 11) (λ t. choice.took _ _ t refl) (λ t. choice.left _ _ t (choice.left _ _ (ne_eqb n no_name h) refl))
+told_plain r h = choice.left _ _ (ne_eqb (number_of r) 11 (λ z. h (one_reason r reason.NoSuchName z))) (choice.took _ _ (eq-eqb no_name no_name refl) (ap refusal.Plain (told_back r)))
+
+told_at : (r : Reason) (n : ℕ) → refusal.At r n ≡ refusal.At (told_reason (number_of r)) n
+told_at r n = ap (λ (x : Reason). refusal.At x n) (told_back r)
+
+told_name : (r : Reason) (n : ℕ) → (n ≡ no_name → ⊥) → refusal.At r n ≡ told_refusal (number_of r) n
+unfolding told_refusal
+told_name r n h = by_test (eqb (number_of r) 11) (λ t. choice.took _ _ t (told_at r n)) (λ t. choice.left _ _ t (choice.left _ _ (ne_eqb n no_name h) (told_at r n)))
 
 -- 11 has its number, whichever that is
-told_claimed : (n : ℕ) → refusal.At 11 n ≡ told_refusal 11 n
+told_claimed : (n : ℕ) → refusal.At reason.NoSuchName n ≡ told_refusal 11 n
 unfolding told_refusal
-told_claimed n = choice.took _ _ (eq-eqb 11 11 refl) refl
+told_claimed n = choice.took _ _ (eq-eqb 11 11 refl) (told_at reason.NoSuchName n)
 
 -- a refused read or whole block
-read_stop : (k r v : ℕ) (q : Refusal) → 1 ≤ r → r ≤ 13 → refusal_number q ≡ packed r v → q ≡ told_refusal r v → NumberTells (read_number k (answer.Refused q)) told_read (answer.Refused q)
+read_stop : (k : ℕ) (r : Reason) (v : ℕ) (q : Refusal) → refusal_number q ≡ packed (number_of r) v → q ≡ told_refusal (number_of r) v
+    → NumberTells (read_number k (Err q)) told_read (Err q)
 unfolding told_read read_number
-read_stop k r v q h l e f =
-    rw e (tells_of told_read r v (omega (arith, l))
-    (choice.left _ _ (ne_eqb r 0 (λ z. omega (arith, h))) (choice.left _ _ (ne_eqb r 256 (λ z. omega (arith, l))) (ap answer.Refused f))))
+read_stop k r v q e f =
+    let b = number_between r in
+    rw e (tells_of told_read (number_of r) v (omega (arith, b.1)) (inr (inr (r, refl)))
+    (choice.left _ _ (ne_eqb (number_of r) 0 (λ z. omega (arith, b.0))) (choice.left _ _ (ne_eqb (number_of r) 256 (λ z. omega (arith, b.1))) (ap Err f))))
 
-why_tells : (s : Source) (m : Kept) (k : ℕ) (q : Refusal) → Why s m q → NumberTells (read_number k (answer.Refused q)) told_read (answer.Refused q)
+why_tells : (s : Source) (m : Kept) (k : ℕ) (q : Refusal) → Why s m q → NumberTells (read_number k (Err q)) told_read (Err q)
 unfolding refusal_number
-why_tells s m k q (cases.unsound a) = read_stop k 1 no_name q (omega arith) (omega arith) refl (told_plain 1 (λ z. omega arith))
-why_tells s m k q (cases.uncounted a b) = read_stop k 13 no_name q (omega arith) (omega arith) refl (told_plain 13 (λ z. omega arith))
-why_tells s m k q (cases.outside a b c) = read_stop k 13 no_name q (omega arith) (omega arith) refl (told_plain 13 (λ z. omega arith))
-why_tells s m k q (cases.unread a b c) = read_stop k 10 no_name q (omega arith) (omega arith) refl (told_plain 10 (λ z. omega arith))
-why_tells s m k q (cases.unnamed r a b c) =
-    let n : ℕ = m.state.names in
-    let t : refusal.At r n ≡ told_refusal r n = told_name r n (λ z. omega (arith, a.counts.kept, a.counts.limit)) in
-    by_reason s m r c
-    (λ e. read_stop k r n q (omega (arith, e.0)) (omega (arith, e.1)) refl t)
-    (λ d x y e. read_stop k r n q (omega arith) (omega arith) refl t)
+why_tells s m k q (cases.unsound a) = read_stop k reason.Unsound no_name q refl (told_plain reason.Unsound (λ z. cc))
+why_tells s m k q (cases.uncounted a b) = read_stop k reason.Outside no_name q refl (told_plain reason.Outside (λ z. cc))
+why_tells s m k q (cases.outside a b c) = read_stop k reason.Outside no_name q refl (told_plain reason.Outside (λ z. cc))
+why_tells s m k q (cases.unread a b c) = read_stop k reason.Unread no_name q refl (told_plain reason.Unread (λ z. cc))
+why_tells s m k q (cases.unnamed r a b c) = read_stop k r m.state.names q refl (told_name r m.state.names (λ z. omega (arith, a.counts.kept, a.counts.limit)))
 
 case_tells : (s : Source) (m : Kept) (k : ℕ) (o : Outcome) → ReadCase s m o → NumberTells (read_number k o.answer) told_read o.answer
 unfolding read_number told_read kept
 case_tells s m k o (refuses q y) = why_tells s m k q y
 case_tells s m k o (ends a b c) =
-    tells_of told_read 256 k (omega arith) (choice.left _ _ (ne_eqb 256 0 (λ z. omega arith)) (choice.took _ _ (eq-eqb 256 256 refl) refl))
-case_tells s m k o (keeps x first rows d a b c e) = tells_of told_read 0 m.state.names (omega arith) (choice.took _ _ (eq-eqb 0 0 refl) refl)
+    tells_of told_read 256 k (omega arith) (inr (inl refl)) (choice.left _ _ (ne_eqb 256 0 (λ z. omega arith)) (choice.took _ _ (eq-eqb 256 256 refl) refl))
+case_tells s m k o (keeps x first rows d a b c e) = tells_of told_read 0 m.state.names (omega arith) (inl refl) (choice.took _ _ (eq-eqb 0 0 refl) refl)
 
 pub number_tells_read : ReadTold
 unfolding read_call reads_of
@@ -135,11 +146,11 @@ block_tells : (rules : Rules) (s : Source) (m : Kept) (count k : ℕ) (o : Openi
     → NumberTells (read_number k (block_of s m count).answer) told_read (block_of s m count).answer
 unfolding refusal_number read
 block_tells rules s m count k o (cases.opens_1 a) e =
-    rw (block_refused s m count (refusal.Plain 1) (ap (λ (x : Opening). x.answer) e)).0
-    (read_stop k 1 no_name (refusal.Plain 1) (omega arith) (omega arith) refl (told_plain 1 (λ z. omega arith)))
+    rw (block_refused s m count (refusal.Plain reason.Unsound) (ap (λ (x : Opening). x.answer) e)).0
+    (read_stop k reason.Unsound no_name (refusal.Plain reason.Unsound) refl (told_plain reason.Unsound (λ z. cc)))
 block_tells rules s m count k o (cases.opens_12 a b) e =
-    rw (block_refused s m count (refusal.Plain 12) (ap (λ (x : Opening). x.answer) e)).0
-    (read_stop k 12 no_name (refusal.Plain 12) (omega arith) (omega arith) refl (told_plain 12 (λ z. omega arith)))
+    rw (block_refused s m count (refusal.Plain reason.BadCount) (ap (λ (x : Opening). x.answer) e)).0
+    (read_stop k reason.BadCount no_name (refusal.Plain reason.BadCount) refl (told_plain reason.BadCount (λ z. cc)))
 block_tells rules s m count k o (cases.opens a b) e =
     let w = block_reads s m count (state count 0 0 0) (starts s.dir) e in
     rw w.answers (case_tells (source s.rules s.bytes s.dir w.last.cur) w.last.kept k _ (read_case _ _))
@@ -149,51 +160,57 @@ unfolding block_call reads_of
 number_tells_block rules bytes dir count cur text names rows st =
     block_tells rules (source rules bytes dir cur) (keeping (state_in st) text names rows) count _ _ (open_case (length bytes) dir count cur) refl
 
-opening_stop : (count r : ℕ) → 1 ≤ r → r ≤ 13 → (r ≡ 11 → ⊥) → NumberTells (packed r no_name) (told_opening count) (opened.Refused (refusal.Plain r))
+opening_stop : (count : ℕ) (r : Reason) → (r ≡ reason.NoSuchName → ⊥) → NumberTells (packed (number_of r) no_name) (told_opening count) (Err (refusal.Plain r))
 unfolding told_opening
-opening_stop count r h l n = tells_of (told_opening count) r no_name (omega (arith, l)) (choice.left _ _ (ne_eqb r 0 (λ z. omega (arith, h))) (ap opened.Refused (told_plain r n)))
+opening_stop count r n =
+    let b = number_between r in
+    tells_of (told_opening count) (number_of r) no_name (omega (arith, b.1)) (inr (inr (r, refl))) (choice.left _ _ (ne_eqb (number_of r) 0 (λ z. omega (arith, b.0))) (ap Err (told_plain r n)))
 
 opening_tells : (len : ℕ) (dir : List ℕ) (count : ℕ) (cur : List ℕ) (o : Opening) → OpenCase len dir count cur o → NumberTells (opened_number o.answer) (told_opening count) o.answer
 unfolding opened_number refusal_number told_opening
-opening_tells len dir count cur o (cases.opens_1 a) = opening_stop count 1 (omega arith) (omega arith) (λ z. omega arith)
-opening_tells len dir count cur o (cases.opens_12 a b) = opening_stop count 12 (omega arith) (omega arith) (λ z. omega arith)
-opening_tells len dir count cur o (cases.opens a b) = tells_of (told_opening count) 0 0 (omega arith) (choice.took _ _ (eq-eqb 0 0 refl) refl)
+opening_tells len dir count cur o (cases.opens_1 a) = opening_stop count reason.Unsound (λ z. cc)
+opening_tells len dir count cur o (cases.opens_12 a b) = opening_stop count reason.BadCount (λ z. cc)
+opening_tells len dir count cur o (cases.opens a b) = tells_of (told_opening count) 0 0 (omega arith) (inl refl) (choice.took _ _ (eq-eqb 0 0 refl) refl)
 
 pub number_tells_opening : OpeningTold
 unfolding open_call opens_of
 number_tells_opening bytes dir count cur st = opening_tells (length bytes) dir count cur _ (open_case (length bytes) dir count cur)
 
-verdict_stop : (r v : ℕ) (q : Refusal) → 1 ≤ r → r ≤ 13 → refusal_number q ≡ packed r v → q ≡ told_refusal r v → NumberTells (verdict_number (verdict.Refused q)) told_verdict (verdict.Refused q)
+verdict_stop : (r : Reason) (v : ℕ) (q : Refusal) → refusal_number q ≡ packed (number_of r) v → q ≡ told_refusal (number_of r) v → NumberTells (verdict_number (Err q)) told_verdict (Err q)
 unfolding told_verdict verdict_number
-verdict_stop r v q h l e f = rw e (tells_of told_verdict r v (omega (arith, l)) (choice.left _ _ (ne_eqb r 0 (λ z. omega (arith, h))) (ap verdict.Refused f)))
+verdict_stop r v q e f =
+    let b = number_between r in
+    rw e (tells_of told_verdict (number_of r) v (omega (arith, b.1)) (inr (inr (r, refl))) (choice.left _ _ (ne_eqb (number_of r) 0 (λ z. omega (arith, b.0))) (ap Err f)))
 
-verdict_tells : (number : ℕ) (claim : List ℕ) (s : State) (text names : List ℕ) (v : Verdict) → Cause number claim s text names v → NumberTells (verdict_number v) told_verdict v
+verdict_tells : (number : ℕ) (claim : List ℕ) (s : State) (text names : List ℕ) (v : Claimed) → Cause number claim s text names v → NumberTells (verdict_number v) told_verdict v
 unfolding verdict_number refusal_number told_verdict
-verdict_tells number claim s text names v (causes.counts_outside a) = verdict_stop 13 no_name _ (omega arith) (omega arith) refl (told_plain 13 (λ z. omega arith))
-verdict_tells number claim s text names v (causes.not_kept a b) = verdict_stop 11 number _ (omega arith) (omega arith) refl (told_claimed number)
+verdict_tells number claim s text names v (causes.counts_outside a) = verdict_stop reason.Outside no_name _ refl (told_plain reason.Outside (λ z. cc))
+verdict_tells number claim s text names v (causes.not_kept a b) = verdict_stop reason.NoSuchName number _ refl (told_claimed number)
 verdict_tells number claim s text names v (causes.text_outside a b c) =
-    verdict_stop 13 number _ (omega arith) (omega arith) refl (told_name 13 number (λ z. omega (arith, a.kept, a.limit)))
+    verdict_stop reason.Outside number _ refl (told_name reason.Outside number (λ z. omega (arith, a.kept, a.limit)))
 verdict_tells number claim s text names v (causes.differs a b) =
-    tells_of told_verdict 0 0 (omega arith) (choice.took _ _ (eq-eqb 0 0 refl) (choice.left _ _ (ne_eqb 0 1 (λ z. omega arith)) refl))
-verdict_tells number claim s text names v (causes.agrees a b) = tells_of told_verdict 0 1 (omega arith) (choice.took _ _ (eq-eqb 0 0 refl) (choice.took _ _ (eq-eqb 1 1 refl) refl))
+    tells_of told_verdict 0 0 (omega arith) (inl refl) (choice.took _ _ (eq-eqb 0 0 refl) (choice.left _ _ (ne_eqb 0 1 (λ z. omega arith)) refl))
+verdict_tells number claim s text names v (causes.agrees a b) = tells_of told_verdict 0 1 (omega arith) (inl refl) (choice.took _ _ (eq-eqb 0 0 refl) (choice.took _ _ (eq-eqb 1 1 refl) refl))
 
 pub number_tells_verdict : VerdictTold
 unfolding claim_call
 number_tells_verdict number claim text names st = verdict_tells number claim (state_in st) text names _ (cause number claim (state_in st) text names)
 
-writing_stop : (totals : List ℕ) (r v : ℕ) (q : Refusal) → 1 ≤ r → r ≤ 13 → refusal_number q ≡ packed r v → q ≡ told_refusal r v
-    → NumberTells (written_number (written.Refused q)) (told_writing totals) (written.Refused q)
+writing_stop : (totals : List ℕ) (r : Reason) (v : ℕ) (q : Refusal) → refusal_number q ≡ packed (number_of r) v → q ≡ told_refusal (number_of r) v
+    → NumberTells (written_number (Err q)) (told_writing totals) (Err q)
 unfolding told_writing written_number
-writing_stop totals r v q h l e f = rw e (tells_of (told_writing totals) r v (omega (arith, l)) (choice.left _ _ (ne_eqb r 0 (λ z. omega (arith, h))) (ap written.Refused f)))
+writing_stop totals r v q e f =
+    let b = number_between r in
+    rw e (tells_of (told_writing totals) (number_of r) v (omega (arith, b.1)) (inr (inr (r, refl))) (choice.left _ _ (ne_eqb (number_of r) 0 (λ z. omega (arith, b.0))) (ap Err f)))
 
 writing_tells : (rules : Rules) (input dir bytes totals : List ℕ) (w : Writing) → WriteCase rules input dir bytes w → NumberTells (writes_of totals w).number (told_writing (writes_of totals w).totals) w.answer
 unfolding writes_of written_number written_totals refusal_number told_writing
-writing_tells rules input dir bytes totals w (cases.writes_1 a) = writing_stop totals 1 no_name _ (omega arith) (omega arith) refl (told_plain 1 (λ z. omega arith))
-writing_tells rules input dir bytes totals w (cases.writes_12 a n) = writing_stop totals 12 no_name _ (omega arith) (omega arith) refl (told_plain 12 (λ z. omega arith))
+writing_tells rules input dir bytes totals w (cases.writes_1 a) = writing_stop totals reason.Unsound no_name _ refl (told_plain reason.Unsound (λ z. cc))
+writing_tells rules input dir bytes totals w (cases.writes_12 a n) = writing_stop totals reason.BadCount no_name _ refl (told_plain reason.BadCount (λ z. cc))
 writing_tells rules input dir bytes totals w (cases.writes_8 n a c b) =
-    writing_stop totals 8 n _ (omega arith) (omega arith) refl (told_name 8 n (λ z. omega (arith, b.there, c.1)))
-writing_tells rules input dir bytes totals w (cases.writes_9 a c h l) = writing_stop totals 9 no_name _ (omega arith) (omega arith) refl (told_plain 9 (λ z. omega arith))
-writing_tells rules input dir bytes totals w (cases.writes a c h l) = tells_of (told_writing (writes_of totals w).totals) 0 _ (omega arith) (choice.took _ _ (eq-eqb 0 0 refl) refl)
+    writing_stop totals reason.BadName n _ refl (told_name reason.BadName n (λ z. omega (arith, b.there, c.1)))
+writing_tells rules input dir bytes totals w (cases.writes_9 a c h l) = writing_stop totals reason.NoRoom no_name _ refl (told_plain reason.NoRoom (λ z. cc))
+writing_tells rules input dir bytes totals w (cases.writes a c h l) = tells_of (told_writing (writes_of totals w).totals) 0 _ (omega arith) (inl refl) (choice.took _ _ (eq-eqb 0 0 refl) refl)
 
 pub number_tells_writing : WritingTold
 unfolding write_call
@@ -213,11 +230,11 @@ unfolding open_call
 open_call_stopped bytes dir count cur st = opening_stopped (length bytes) dir count cur st _ (open_case (length bytes) dir count cur)
 
 opening_stops : (len : ℕ) (dir : List ℕ) (count : ℕ) (cur st : List ℕ) (o : Opening) → OpenCase len dir count cur o
-    → (r : Refusal) → o.answer ≡ opened.Refused r → Stopped (opens_of st o).number
+    → (r : Refusal) → o.answer ≡ Err r → Stopped (opens_of st o).number
 unfolding opens_of opened_number refusal_number
-opening_stops len dir count cur st o (cases.opens_1 a) r e = numbered 1 _ (omega arith) (omega arith)
-opening_stops len dir count cur st o (cases.opens_12 a b) r e = numbered 12 _ (omega arith) (omega arith)
-opening_stops len dir count cur st o (cases.opens a b) r e = let z : ◌≡◌ {A = ℕ} 0 1 = cc in absurd (omega arith)
+opening_stops len dir count cur st o (cases.opens_1 a) r e = numbered reason.Unsound _
+opening_stops len dir count cur st o (cases.opens_12 a b) r e = numbered reason.BadCount _
+opening_stops len dir count cur st o (cases.opens a b) r e = cc
 
 pub open_call_stops : OpenCallStops
 unfolding open_call
@@ -236,18 +253,9 @@ read_call_stopped rules bytes dir cur text names rows st l h =
     reading_stopped (source rules bytes dir cur) (keeping (state_in st) text names rows) _ (read_case _ _) h
     ∙ ap (reads (read_call rules bytes dir cur text names rows st).number cur text names rows) (state_back st l)
 
-why_code : (s : Source) (m : Kept) (q : Refusal) → Why s m q → Stopped (refusal_number q)
-unfolding refusal_number
-why_code s m q (cases.unsound a) = numbered 1 _ (omega arith) (omega arith)
-why_code s m q (cases.uncounted a b) = numbered 13 _ (omega arith) (omega arith)
-why_code s m q (cases.outside a b c) = numbered 13 _ (omega arith) (omega arith)
-why_code s m q (cases.unread a b c) = numbered 10 _ (omega arith) (omega arith)
-why_code s m q (cases.unnamed n a b c) =
-    by_reason s m n c (λ e. numbered n _ (omega (arith, e.0)) (omega (arith, e.1))) (λ d x y e. numbered n _ (omega arith) (omega arith))
-
-case_stops : (s : Source) (m : Kept) (o : Outcome) → ReadCase s m o → ((i : ℕ) → o.answer ≡ answer.Kept i → ⊥) → Stopped (reads_of o).number
+case_stops : (s : Source) (m : Kept) (o : Outcome) → ReadCase s m o → ((i : ℕ) → o.answer ≡ Ok (Some i) → ⊥) → Stopped (reads_of o).number
 unfolding reads_of read_number kept
-case_stops s m o (refuses q y) f = why_code s m q y
+case_stops s m o (refuses q y) f = refusal_stopped q
 case_stops s m o (ends a b c) f = record { code = 256; value = _; is = refl; some = omega arith; low = omega arith }
 case_stops s m o (keeps x first rows d a b c e) f = absurd (f m.state.names refl)
 
@@ -255,23 +263,23 @@ pub read_call_stops : ReadCallStops
 unfolding read_call
 read_call_stops rules bytes dir cur text names rows st = case_stops (source rules bytes dir cur) (keeping (state_in st) text names rows) _ (read_case _ _)
 
-writing_stopped : (dir bytes totals d b : List ℕ) (a : WriteAnswer) → ((r : Refusal) → a ≡ written.Refused r → (d ≡ dir) × (b ≡ bytes))
+writing_stopped : (dir bytes totals d b : List ℕ) (a : WriteAnswer) → ((r : Refusal) → a ≡ Err r → (d ≡ dir) × (b ≡ bytes))
     → Stopped (written_number a) → writes (written_number a) d b (written_totals totals a) ≡ writes (written_number a) dir bytes totals
 unfolding written_number written_totals
-writing_stopped dir bytes totals d b (written.Written n total) f h = absurd (not_stopped total h)
-writing_stopped dir bytes totals d b (written.Refused r) f h = let e = f r refl in rw (e.0, e.1)
+writing_stopped dir bytes totals d b (Ok w) f h = absurd (not_stopped w.bytes h)
+writing_stopped dir bytes totals d b (Err r) f h = let e = f r refl in rw (e.0, e.1)
 
 pub write_call_stopped : WriteCallStopped
 unfolding write_call writes_of
 write_call_stopped rules input dir bytes totals = writing_stopped dir bytes totals _ _ (write_of rules input dir bytes).answer (write_refused rules input dir bytes)
 
-writes_stops : (rules : Rules) (input dir bytes totals : List ℕ) (w : Writing) → WriteCase rules input dir bytes w → (r : Refusal) → w.answer ≡ written.Refused r → Stopped (writes_of totals w).number
+writes_stops : (rules : Rules) (input dir bytes totals : List ℕ) (w : Writing) → WriteCase rules input dir bytes w → (r : Refusal) → w.answer ≡ Err r → Stopped (writes_of totals w).number
 unfolding writes_of written_number refusal_number
-writes_stops rules input dir bytes totals w (cases.writes_1 a) r e = numbered 1 _ (omega arith) (omega arith)
-writes_stops rules input dir bytes totals w (cases.writes_12 a n) r e = numbered 12 _ (omega arith) (omega arith)
-writes_stops rules input dir bytes totals w (cases.writes_8 n a c b) r e = numbered 8 n (omega arith) (omega arith)
-writes_stops rules input dir bytes totals w (cases.writes_9 a c h l) r e = numbered 9 _ (omega arith) (omega arith)
-writes_stops rules input dir bytes totals w (cases.writes a c h l) r e = let z : ◌≡◌ {A = ℕ} 0 1 = cc in absurd (omega arith)
+writes_stops rules input dir bytes totals w (cases.writes_1 a) r e = numbered reason.Unsound _
+writes_stops rules input dir bytes totals w (cases.writes_12 a n) r e = numbered reason.BadCount _
+writes_stops rules input dir bytes totals w (cases.writes_8 n a c b) r e = numbered reason.BadName n
+writes_stops rules input dir bytes totals w (cases.writes_9 a c h l) r e = numbered reason.NoRoom _
+writes_stops rules input dir bytes totals w (cases.writes a c h l) r e = cc
 
 pub write_call_stops : WriteCallStops
 unfolding write_call
@@ -310,7 +318,7 @@ module _ (rules : Rules) (bytes dir : List ℕ) where
   calls_four (claiming number claim ∷ cs) r h = calls_four cs r h
 
   -- reads that keep a name answer code 0
-  kept_call : (r : Reads) (i : ℕ) → (read rules bytes dir (lent_from r)).answer ≡ answer.Kept i → (call_on rules bytes dir r reading).number ≡ packed 0 i
+  kept_call : (r : Reads) (i : ℕ) → (read rules bytes dir (lent_from r)).answer ≡ Ok (Some i) → (call_on rules bytes dir r reading).number ≡ packed 0 i
   unfolding call_on read_call reads_of read_number read lent_from
   kept_call r i e = ap (read_number _) e
 
@@ -332,7 +340,7 @@ module _ (rules : Rules) (bytes dir : List ℕ) where
 
 -- opening that answers code 0 has accepted the block
 opens_fresh : (len : ℕ) (dir : List ℕ) (count : ℕ) (cur st : List ℕ) (o : Opening) → OpenCase len dir count cur o → (v : ℕ) → (opens_of st o).number ≡ packed 0 v
-    → o ≡ opening (opened.Fresh (state count 0 0 0)) (starts dir)
+    → o ≡ opening (Ok (state count 0 0 0)) (starts dir)
 unfolding opens_of opened_number refusal_number packed
 opens_fresh len dir count cur st o (cases.opens_1 a) v e = absurd (omega (arith, e))
 opens_fresh len dir count cur st o (cases.opens_12 a b) v e = absurd (omega (arith, e))
@@ -364,7 +372,7 @@ unfolding refusal_number
 sane_says l q (left_over e) = says_left_over
 sane_says l q (by_rules r b) = says_by_rules r b
 
-case_number : (s : Source) (m : Kept) (o : Outcome) → ReadCase s m o → ((q : Refusal) → o.answer ≡ answer.Refused q → Sane (lent s.cur m) q)
+case_number : (s : Source) (m : Kept) (o : Outcome) → ReadCase s m o → ((q : Refusal) → o.answer ≡ Err q → Sane (lent s.cur m) q)
     → ((reads_of o).number ≡ packed 0 m.state.names) ⊎ StopSays m.state.names (reads_of o).number
 unfolding reads_of read_number kept
 case_number s m o (refuses q y) g = inr (sane_says (lent s.cur m) q (g q refl))
@@ -412,7 +420,7 @@ module _ (rules : Rules) (bytes dir : List ℕ) (count : ℕ) (cur text names : 
   abbrev first : Lent
   first = lent (starts dir) (keeping (state count 0 0 0) text names rows)
 
-  pub accepts : open_of (length bytes) dir count cur ≡ opening (opened.Fresh (state count 0 0 0)) (starts dir)
+  pub accepts : open_of (length bytes) dir count cur ≡ opening (Ok (state count 0 0 0)) (starts dir)
   unfolding open_call
   accepts = opens_fresh (length bytes) dir count cur st _ (open_case (length bytes) dir count cur) v fresh
 

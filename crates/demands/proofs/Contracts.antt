@@ -1,6 +1,7 @@
 -- One outcome only, and the demands for whatever meets the contracts. A contract of a public call is an equation: the answer and every lent
 -- buffer at exit, put together, are what the definition gives. So the theorems about the definitions are theorems about the code.
 use Prim.Native.Nat.{ℕ, ◌≤◌, ◌<◌}
+use Rattle.std.specs.Prelude.{Err}
 use mathlib.Core.Path.{◌≡◌, refl, sym, ap, ◌∙◌, subst}
 use mathlib.Core.List.{List, [], ◌∷◌}
 use mathlib.Core.Logic.{⊎_elim}
@@ -9,13 +10,11 @@ use Rattle.comparing.specs.Same.{same}
 use Rattle.base.proofs.Choice.{by_test}
 use Rattle.comparing.proofs.Equal.{same_equal, differ_same}
 use Rattle.base.proofs.Numbers.{lt_or_ge}
-use Rattle.block.specs.declared.Refusal.{Refusal}
-use Rattle.block.specs.declared.Opened.TheVariants as opened
+use Rattle.refusals.specs.declared.Refusal.{Refusal}
 use Rattle.block.specs.Block.{Opening}
 use Rattle.block.proofs.Laws.{at_end_each}
 use Rattle.tables.specs.Tables.{Kept}
 use Rattle.sources.specs.Source.{Source, source}
-use Rattle.entries.specs.declared.Answer.TheVariants as answer
 use Rattle.outcomes.specs.Outcomes.{Outcome}
 use Rattle.outcomes.specs.Keeping.{kept}
 use Rattle.demands.specs.Runs.{Lent, lent, fresh_over, read, left, Call, reading, claiming, after, run, claimed, name_at}
@@ -51,16 +50,16 @@ one_writing rules input dir bytes x y = one_outcome
 -- demand 1 of the code
 pub opening_untouched : OpeningUntouched
 opening_untouched len dir count cur o e =
-    subst (λ (x : Opening). (r : Refusal) → x.answer ≡ opened.Refused r → x.cursors ≡ cur) (sym e) (open_refused len dir count cur)
+    subst (λ (x : Opening). (r : Refusal) → x.answer ≡ Err r → x.cursors ≡ cur) (sym e) (open_refused len dir count cur)
 
 pub read_untouched : ReadUntouched
-read_untouched s m o e = subst (λ (x : Outcome). (r : Refusal) → x.answer ≡ answer.Refused r → Untouched s m x) (sym e) (read_refused s m)
+read_untouched s m o e = subst (λ (x : Outcome). (r : Refusal) → x.answer ≡ Err r → Untouched s m x) (sym e) (read_refused s m)
 
 pub writing_untouched : WritingUntouched
 writing_untouched rules input dir bytes w e = subst (Unwritten dir bytes) (sym e) (write_refused rules input dir bytes)
 
 pub block_untouched : BlockUntouched
-block_untouched s m count o e r f = subst (λ (x : Outcome). (x.answer ≡ answer.Refused r) × Untouched s m x) (sym e) (block_refused s m count r f)
+block_untouched s m count o e r f = subst (λ (x : Outcome). (x.answer ≡ Err r) × Untouched s m x) (sym e) (block_refused s m count r f)
 
 pub block_keeps : BlockKeeps
 block_keeps s m count o e st cur f =
@@ -74,7 +73,7 @@ seen_run rules bytes dir l z (c ∷ cs) (a_read a b o calls e t) = seen_run rule
 seen_run rules bytes dir l z (c ∷ cs) (a_claim a b number claim v calls e t) = seen_run rules bytes dir l z cs t
 
 -- what a read answers where demand 3 holds
-case_says : (s : Source) (m : Kept) (o : Outcome) → ReadCase s m o → ((r : Refusal) → o.answer ≡ answer.Refused r → Sane (lent s.cur m) r)
+case_says : (s : Source) (m : Kept) (o : Outcome) → ReadCase s m o → ((r : Refusal) → o.answer ≡ Err r → Sane (lent s.cur m) r)
     → ReadSays s.dir (lent s.cur m) o.answer
 unfolding kept
 case_says s m o (refuses r y) g = stops r (g r refl)

@@ -1,5 +1,7 @@
 -- Demand 3: from a fresh start on one block, after any sequence of reads and claims, refused ones too.
 use Prim.Native.Nat.{ℕ, suc, ◌+◌, ◌-◌, ◌≤◌, ◌<◌}
+use Rattle.std.specs.Prelude.{Some, Ok, Err}
+use Rattle.refusals.specs.declared.Reason.TheVariants as reason
 use mathlib.Core.Path.{◌≡◌, refl, sym, ap, ◌∙◌, subst}
 use mathlib.Core.Logic.{⊎_elim}
 use mathlib.Core.List.{List, [], ◌∷◌, ◌++◌}
@@ -10,9 +12,9 @@ use lib.Dec.{ltb}
 use lib.ListN.{length, replicate}
 use Rattle.base.proofs.Choice.{never, pick_true, pick_false, by_test}
 use Rattle.block.specs.declared.State.{State}
-use Rattle.block.specs.declared.Refusal.{Refusal}
+use Rattle.refusals.specs.declared.Refusal.{Refusal}
 use Rattle.block.specs.Block.{state}
-use Rattle.block.specs.declared.Refusal.TheVariants as refusal
+use Rattle.refusals.specs.declared.Refusal.TheVariants as refusal
 use Rattle.block.proofs.Laws.{open_sound, open_inside, accepted}
 use Rattle.words.specs.Words.{telling, Ending, done, unread, stopped, Telling}
 use Rattle.demands.specs.ByWords.{ends_with, answer_at, ByWords, AlwaysTold, Ends, over, at, RefusedTold, SameNames}
@@ -23,12 +25,10 @@ use Rattle.kept.specs.Inside.{TextCounted}
 use Rattle.kept.proofs.Laws.{counts_text, counts_of, earlier_fits_of}
 use Rattle.kept.proofs.Later.{Later, later_same, later_then, entry_later}
 use Rattle.sources.specs.Source.{Source, source}
-use Rattle.entries.specs.declared.Answer.TheVariants as answer
 use Rattle.outcomes.specs.Outcomes.{Outcome}
 use Rattle.outcomes.specs.Keeping.{kept}
 use Rattle.reads.specs.Reads.{read_of}
 use Rattle.reading.specs.Blocks.{block_of}
-use Rattle.claims.specs.declared.Verdict.TheVariants.{Refused}
 use Rattle.claims.specs.Claims.{name_text}
 use Rattle.claims.specs.Causes.{Answerable}
 use Rattle.claims.proofs.Laws.{confirmed_of, denied_of, eleven_of, confirmed, thirteen, thirteen_at}
@@ -50,13 +50,13 @@ run_sure rules bytes dir [] l s = s
 run_sure rules bytes dir (c ∷ cs) l s = run_sure rules bytes dir cs (after rules bytes dir l c) (after_sure rules bytes dir l c s)
 
 -- a read over what is lent keeps a name, or leaves everything as it was
-by_way : {P : Type 0} (s : Source) (m : Kept) (o : Outcome) → ReadCase s m o → ((i : ℕ) → o.answer ≡ answer.Kept i → P) → (left o ≡ lent s.cur m → P) → P
+by_way : {P : Type 0} (s : Source) (m : Kept) (o : Outcome) → ReadCase s m o → ((i : ℕ) → o.answer ≡ Ok (Some i) → P) → (left o ≡ lent s.cur m → P) → P
 unfolding left kept
 by_way s m o (refuses r y) f g = g refl
 by_way s m o (ends a b c) f g = g refl
 by_way s m o (keeps x first rows d a b c e) f g = f m.state.names refl
 
-pub read_or_not : (rules : Rules) {P : Type 0} (bytes dir : List ℕ) (l : Lent) → ((i : ℕ) → (read rules bytes dir l).answer ≡ answer.Kept i → P) → (left (read rules bytes dir l) ≡ l → P) → P
+pub read_or_not : (rules : Rules) {P : Type 0} (bytes dir : List ℕ) (l : Lent) → ((i : ℕ) → (read rules bytes dir l).answer ≡ Ok (Some i) → P) → (left (read rules bytes dir l) ≡ l → P) → P
 unfolding read
 read_or_not rules bytes dir l f g = by_way (source rules bytes dir l.cur) l.kept (read_of (source rules bytes dir l.cur) l.kept) (read_case _ _) f g
 
@@ -107,11 +107,11 @@ plain_reads rules bytes dir n l z (none x) = refl
 plain_reads rules bytes dir n l z (next k i x y e h) = plain_reads rules bytes dir k _ z h
 
 module _ (rules : Rules) (bytes dir : List ℕ) where
-  pub one_later : (l : Lent) (i : ℕ) → (read rules bytes dir l).answer ≡ answer.Kept i → Later l.kept (left (read rules bytes dir l)).kept
+  pub one_later : (l : Lent) (i : ℕ) → (read rules bytes dir l).answer ≡ Ok (Some i) → Later l.kept (left (read rules bytes dir l)).kept
   unfolding read left
   one_later l i e = later_adds (source rules bytes dir l.cur) l.kept i _ (read_adds (source rules bytes dir l.cur) l.kept i e)
 
-  pub one_name : (l : Lent) (i : ℕ) → (read rules bytes dir l).answer ≡ answer.Kept i → (left (read rules bytes dir l)).kept.state.names ≡ l.kept.state.names + 1
+  pub one_name : (l : Lent) (i : ℕ) → (read rules bytes dir l).answer ≡ Ok (Some i) → (left (read rules bytes dir l)).kept.state.names ≡ l.kept.state.names + 1
   unfolding read left
   one_name l i e = ap (λ (x : State). x.names) (read_adds (source rules bytes dir l.cur) l.kept i e).counts
 
@@ -125,7 +125,7 @@ module _ (rules : Rules) (bytes dir : List ℕ) where
   keeps_later n l z (next k i x y e h) = later_then l.kept _ z.kept (one_later l i e) (keeps_later k _ z h)
 
   -- reads that stop where no name is kept go through wherever other reads came
-  reads_on : (n k : ℕ) (l z w : Lent) → Keeps rules bytes dir n l z → Keeps rules bytes dir k l w → ((i : ℕ) → (read rules bytes dir w).answer ≡ answer.Kept i → ⊥) → Reads rules bytes dir z w
+  reads_on : (n k : ℕ) (l z w : Lent) → Keeps rules bytes dir n l z → Keeps rules bytes dir k l w → ((i : ℕ) → (read rules bytes dir w).answer ≡ Ok (Some i) → ⊥) → Reads rules bytes dir z w
   reads_on n k l z w (none x) g s = record { names = k; reads = g }
   reads_on n k l z w (next a i x y e h) (none u) s = absurd (s i e)
   reads_on n k l z w (next a i x y e h) (next b j u v f g) s = reads_on a b _ z w h g s
@@ -185,30 +185,30 @@ same_names rules bytes dir count l w f g calls others i h k =
 
 -- how the words end a block is how the read that meets it is refused
 module _ (b : Telling) (z : Lent) (all : z.kept.state.names ≡ length b.names) where
-  ends_of : (x : Ending) → b.ending ≡ x → (q : Refusal) → ends_with z.kept.state.names x ≡ answer.Refused q → Ends b z q
+  ends_of : (x : Ending) → b.ending ≡ x → (q : Refusal) → ends_with z.kept.state.names x ≡ Err q → Ends b z q
   unfolding ends_with
-  ends_of done e q a = let o : ◌≡◌ {A = ℕ} 0 1 = cc in absurd (omega arith)
-  ends_of unread e q a = let w : refusal.Plain 10 ≡ q = cc in subst (Ends b z) w (over all e)
+  ends_of done e q a = cc
+  ends_of unread e q a = let w : refusal.Plain reason.Unread ≡ q = cc in subst (Ends b z) w (over all e)
   ends_of (stopped r) e q a =
       let w : refusal.At r z.kept.state.names ≡ q = cc in
       subst (Ends b z) w (at r z.kept.state.names (record { all = all; number = all; ending = e }))
 
 -- a read over what the words tell that is refused otherwise than with 9 is refused as they say that the block ends
-pub ends_told : (rules : Rules) (bytes dir : List ℕ) (b : Telling) (z : Lent) → ByWords rules bytes dir b z → (q : Refusal) → ((n : ℕ) → q ≡ refusal.At 9 n → ⊥)
-    → (read rules bytes dir z).answer ≡ answer.Refused q → Ends b z q
+pub ends_told : (rules : Rules) (bytes dir : List ℕ) (b : Telling) (z : Lent) → ByWords rules bytes dir b z → (q : Refusal) → ((n : ℕ) → q ≡ refusal.At reason.NoRoom n → ⊥)
+    → (read rules bytes dir z).answer ≡ Err q → Ends b z q
 unfolding answer_at
 ends_told rules bytes dir b z t q h e =
     let k : ℕ = z.kept.state.names in
     ⊎_elim
     (λ (a : (read rules bytes dir z).answer ≡ answer_at b k).
     by_test (ltb k (length b.names))
-    (λ y. let w : answer.Kept k ≡ answer.Refused q = sym (pick_true _ _ y) ∙ sym a ∙ e in let x : ◌≡◌ {A = ℕ} 0 1 = cc in absurd (omega arith))
+    (λ y. let w : Ok (Some k) ≡ Err q = sym (pick_true _ _ y) ∙ sym a ∙ e in cc)
     (λ y.
     let last : length b.names ≤ k = ltb-false _ _ y in
     ends_of b z (omega (arith, last, t.few)) b.ending refl q (sym (pick_false _ _ y) ∙ sym a ∙ e)))
-    (λ (a : (k < length b.names) × ((read rules bytes dir z).answer ≡ answer.Refused (refusal.At 9 k))).
-    let w : answer.Refused (refusal.At 9 k) ≡ answer.Refused q = sym a.1 ∙ e in
-    let x : q ≡ refusal.At 9 k = cc in absurd (h k x))
+    (λ (a : (k < length b.names) × ((read rules bytes dir z).answer ≡ Err (refusal.At reason.NoRoom k))).
+    let w : Err (refusal.At reason.NoRoom k) ≡ Err q = sym a.1 ∙ e in
+    let x : q ≡ refusal.At reason.NoRoom k = cc in absurd (h k x))
     t.answers
 
 pub refused_told : RefusedTold

@@ -1,5 +1,6 @@
 -- "done", and 10: a read with k equal to the count.
-use Prim.Native.Nat.{ℕ}
+use Rattle.entries.specs.Entries.{Answer}
+use Rattle.std.specs.Prelude.{Some, None, Ok, Err}
 use mathlib.Core.Path.{◌≡◌, refl, sym, ◌∙◌}
 use mathlib.Core.Bool.{true}
 use native.Mathlib.Omega.{arith}
@@ -10,8 +11,6 @@ use Rattle.block.specs.Block.{sound, all_at_end, starts, state}
 use Rattle.block.proofs.Laws.{at_end_each, each_at_end, opens_fresh, starts_cursor}
 use Rattle.tables.specs.Tables.{Kept}
 use Rattle.sources.specs.Source.{Source, source}
-use Rattle.entries.specs.declared.Answer.{Answer}
-use Rattle.entries.specs.declared.Answer.TheVariants as answer
 use Rattle.outcomes.specs.Outcomes.{Outcome, plain}
 use Rattle.outcomes.specs.Keeping.{kept}
 use Rattle.inner.specs.Next.{next_of}
@@ -21,11 +20,11 @@ use Rattle.demands.specs.Refusals.{Ready, ReadCase, refuses, ends, keeps}
 use Rattle.demands.specs.Done.{AtEnd, DoneMeans, DoneWhen, TenWhen, no_names, EmptyBlock, UnreadBlock}
 use Rattle.demands.proofs.Lemmas.Ways.{ready_reads, read_case, fresh_ready}
 
-done_way : (s : Source) (m : Kept) (o : Outcome) → ReadCase s m o → o.answer ≡ answer.Done → (m.state.names ≡ m.state.count) × AtEnd s.dir s.cur
+done_way : (s : Source) (m : Kept) (o : Outcome) → ReadCase s m o → o.answer ≡ Ok None → (m.state.names ≡ m.state.count) × AtEnd s.dir s.cur
 unfolding kept
-done_way s m o (refuses r y) e = let z : ◌≡◌ {A = ℕ} 0 1 = cc in absurd (omega arith)
+done_way s m o (refuses r y) e = cc
 done_way s m o (ends r k a) e = (k, at_end_each s.dir s.cur a)
-done_way s m o (keeps x first rows d r k g f) e = let z : ◌≡◌ {A = ℕ} 0 1 = cc in absurd (omega arith)
+done_way s m o (keeps x first rows d r k g f) e = cc
 
 pub done_means : DoneMeans
 done_means s m e = done_way s m (read_of s m) (read_case s m) e
@@ -42,9 +41,9 @@ ten_when s m r k j h n =
 
 the_last : (o : Outcome) (a : Answer) → go_on (λ x. x) o a ≡ o
 unfolding go_on
-the_last o (answer.Kept n) = refl
-the_last o answer.Done = refl
-the_last o (answer.Refused r) = refl
+the_last o (Ok (Some n)) = refl
+the_last o (Ok None) = refl
+the_last o (Err r) = refl
 
 module _ (s : Source) (m : Kept) (sounds : sound (length s.bytes) s.dir s.cur ≡ true) where
   -- a block of no names is opened and read once

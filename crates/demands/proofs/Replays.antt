@@ -5,6 +5,7 @@ use mathlib.Core.Bool.{true}
 use mathlib.Core.List.{List, [], ◌∷◌, ◌++◌, append-nil}
 use mathlib.Core.Logic.{inl, inr}
 use native.Mathlib.Omega.{arith}
+use Rattle.std.specs.Prelude.{Ok, Err}
 use borrow.Author.Tests.{eq-eqb, ne_eqb, lt-ltb, ltb-true}
 use lib.Dec.{ltb}
 use lib.ListN.{length}
@@ -12,12 +13,12 @@ use Rattle.base.proofs.Choice as choice
 use Rattle.base.proofs.Choice.{both_true, both_of}
 use Rattle.base.proofs.Every.{every_none, every_more}
 use Rattle.base.proofs.Numbers.{by_order}
-use Rattle.block.specs.declared.Refusal.TheVariants.{Plain}
+use Rattle.refusals.specs.declared.Reason.TheVariants.{BadSize, BadSymbol}
+use Rattle.refusals.specs.declared.Refusal.TheVariants.{Plain}
 use Rattle.model.specs.declared.Model.{Model}
 use Rattle.model.specs.Model.{places, started, place_of, step_at}
 use Rattle.model.specs.Sound.{Sound}
 use Rattle.replays.proofs.Always.{sound_started, sound_step, place_within, place_outside}
-use Rattle.replays.specs.declared.Replayed.TheVariants.{Whole, Refused}
 use Rattle.replays.specs.Replays.{Replaying, replaying, replay_from, replay_fresh, in_place, replay_of}
 use Rattle.replays.proofs.Steps.{sound_fresh}
 use Rattle.replays.proofs.Laws.{stops_at, steps_by, replay_none, fresh_is, none_sized, over_sized, well_sized}
@@ -41,8 +42,8 @@ module _ (n : ℕ) (m : Model) (t : Sound n m) (s : ℕ) where
 
 -- a trace taken from its front: to its end, or to the first symbol that isn't the table's
 pub data Told (n : ℕ) (m : Model) (trace : List ℕ) : Replaying → Type 0 where
-  told_all : known n trace ≡ true → Told n m trace (replaying Whole (seen m trace))
-  told_18 : (before : List ℕ) (s : ℕ) (rest : List ℕ) → trace ≡ before ++ s ∷ rest → known n before ≡ true → n ≤ s → Told n m trace (replaying (Refused (Plain 18)) (seen m before))
+  told_all : known n trace ≡ true → Told n m trace (replaying (Ok tt) (seen m trace))
+  told_18 : (before : List ℕ) (s : ℕ) (rest : List ℕ) → trace ≡ before ++ s ∷ rest → known n before ≡ true → n ≤ s → Told n m trace (replaying (Err (Plain BadSymbol)) (seen m before))
 
 known_more : (n s : ℕ) (rest : List ℕ) → s < n → known n rest ≡ true → known n (s ∷ rest) ≡ true
 known_more n s rest h e = every_more (λ x. ltb x n) s rest ∙ both_of (lt-ltb s n h) e
@@ -85,7 +86,7 @@ goes_on n m t (s ∷ before) rest e =
     goes_on n (step_at m (place_of m.symbols s)) (seen_sound n m t s h) before rest k.1 ∙ steps_by m s (before ++ rest) (stands n m t s h)
 
 -- so a trace of them leaves the steps of all, and these are sound
-all_seen : (n : ℕ) → n ≤ places → (trace : List ℕ) → known n trace ≡ true → replaying Whole (seen (started n) trace) ≡ replay_fresh n trace
+all_seen : (n : ℕ) → n ≤ places → (trace : List ℕ) → known n trace ≡ true → replaying (Ok tt) (seen (started n) trace) ≡ replay_fresh n trace
 all_seen n k trace f =
     replay_none (seen (started n) trace)
     ∙ goes_on n (started n) (sound_started n k) trace [] f
@@ -116,15 +117,15 @@ replay_ends_sound n trace m h k =
     subst (λ (r : Replaying). TableLeft n trace m r.model) (well_sized n trace m h k) (ends_of n trace m (sound_fresh n k trace))
 
 pub replay_17 : Replay17
-replay_17 n trace m h = sym (case_replays n trace m (replaying (Refused (Plain 17)) m) (replays_17 h))
+replay_17 n trace m h = sym (case_replays n trace m (replaying (Err (Plain BadSize)) m) (replays_17 h))
 
 -- size and trace alone give the answer: a case of one record is a case of any other
 alike : (n : ℕ) (trace : List ℕ) (m other : Model) (r : Replaying) → ReplayCase n trace m r → r.answer ≡ (replay_of n trace other).answer
 unfolding in_place
-alike n trace m other r (replays_17 h) = ap (λ (x : Replaying). x.answer) (case_replays n trace other (replaying (Refused (Plain 17)) other) (replays_17 h))
+alike n trace m other r (replays_17 h) = ap (λ (x : Replaying). x.answer) (case_replays n trace other (replaying (Err (Plain BadSize)) other) (replays_17 h))
 alike n trace m other r (replays_18 h k before s rest e f g) =
-    ap (λ (x : Replaying). x.answer) (case_replays n trace other (in_place other (replaying (Refused (Plain 18)) (seen (started n) before))) (replays_18 h k before s rest e f g))
-alike n trace m other r (replays_all h k f) = ap (λ (x : Replaying). x.answer) (case_replays n trace other (in_place other (replaying Whole (seen (started n) trace))) (replays_all h k f))
+    ap (λ (x : Replaying). x.answer) (case_replays n trace other (in_place other (replaying (Err (Plain BadSymbol)) (seen (started n) before))) (replays_18 h k before s rest e f g))
+alike n trace m other r (replays_all h k f) = ap (λ (x : Replaying). x.answer) (case_replays n trace other (in_place other (replaying (Ok tt) (seen (started n) trace))) (replays_all h k f))
 
 pub replay_alone : ReplayAlone
 replay_alone n trace m other = alike n trace m other (replay_of n trace m) (replay_case n trace m)
@@ -159,16 +160,16 @@ call_of n trace m r c = ap replays_of (sym (case_replays n trace m r c))
 
 pub replay_call_17 : ReplayCall17
 unfolding replays_of replayed_number refusal_number
-replay_call_17 n trace m h = call_of n trace m (replaying (Refused (Plain 17)) m) (replays_17 h)
+replay_call_17 n trace m h = call_of n trace m (replaying (Err (Plain BadSize)) m) (replays_17 h)
 
 pub replay_call_18 : ReplayCall18
 unfolding replays_of replayed_number refusal_number in_place
 replay_call_18 n trace m h k before s rest e f g =
-    call_of n trace m (in_place m (replaying (Refused (Plain 18)) (seen (started n) before))) (replays_18 h k before s rest e f g)
+    call_of n trace m (in_place m (replaying (Err (Plain BadSymbol)) (seen (started n) before))) (replays_18 h k before s rest e f g)
 
 pub replay_call_all : ReplayCallAll
 unfolding replays_of replayed_number in_place
-replay_call_all n trace m h k f = call_of n trace m (in_place m (replaying Whole (seen (started n) trace))) (replays_all h k f)
+replay_call_all n trace m h k f = call_of n trace m (in_place m (replaying (Ok tt) (seen (started n) trace))) (replays_all h k f)
 
 pub replay_call_alone : ReplayCallAlone
 unfolding replay_call replays_of
@@ -177,9 +178,9 @@ replay_call_alone n trace m other = ap replayed_number (replay_alone n trace m o
 -- a number tells the answer
 answer_tells : (n : ℕ) (trace : List ℕ) (m : Model) (r : Replaying) → ReplayCase n trace m r → NumberTells (replays_of r).number told_replay r.answer
 unfolding replays_of replayed_number refusal_number in_place told_replay
-answer_tells n trace m r (replays_17 h) = tells_of told_replay 17 no_name (omega arith) (choice.left _ _ (ne_eqb 17 0 (λ z. omega arith)) (ap Refused (told_plain 17 (λ z. omega arith))))
-answer_tells n trace m r (replays_18 a b before s rest e f g) = tells_of told_replay 18 no_name (omega arith) (choice.left _ _ (ne_eqb 18 0 (λ z. omega arith)) (ap Refused (told_plain 18 (λ z. omega arith))))
-answer_tells n trace m r (replays_all a b f) = tells_of told_replay 0 0 (omega arith) (choice.took _ _ (eq-eqb 0 0 refl) refl)
+answer_tells n trace m r (replays_17 h) = tells_of told_replay 17 no_name (omega arith) (inr (inr (BadSize, refl))) (choice.left _ _ (ne_eqb 17 0 (λ z. omega arith)) (ap Err (told_plain BadSize (λ z. cc))))
+answer_tells n trace m r (replays_18 a b before s rest e f g) = tells_of told_replay 18 no_name (omega arith) (inr (inr (BadSymbol, refl))) (choice.left _ _ (ne_eqb 18 0 (λ z. omega arith)) (ap Err (told_plain BadSymbol (λ z. cc))))
+answer_tells n trace m r (replays_all a b f) = tells_of told_replay 0 0 (omega arith) (inl refl) (choice.took _ _ (eq-eqb 0 0 refl) refl)
 
 pub number_tells_replay : ReplayTold
 unfolding replay_call

@@ -2,6 +2,7 @@
 -- and that a replay refused with 18 keeps what the symbols before the bad one did (C-22, proofs/Replays).
 -- A claim gives a verdict and no memory: there is nothing that it could alter.
 use Prim.Native.Nat.{ℕ, zero, suc, ◌+◌, ◌≤◌}
+use Rattle.std.specs.Prelude.{Some, None, Ok, Err}
 use mathlib.Core.Path.{◌≡◌, refl, sym, ap}
 use mathlib.Core.Bool.{not}
 use mathlib.Core.List.{List}
@@ -9,14 +10,12 @@ use native.Mathlib.Omega.{arith}
 use lib.Dec.{ltb}
 use lib.ListN.{length}
 use Rattle.base.proofs.Choice.{pick_holds}
-use Rattle.block.specs.declared.Refusal.{Refusal}
-use Rattle.block.specs.declared.Opened.TheVariants as opened
+use Rattle.refusals.specs.declared.Refusal.{Refusal}
 use Rattle.block.specs.declared.State.{State}
 use Rattle.block.specs.Block.{Opening, open_of, sound, state}
 use Rattle.block.proofs.Laws.{Accepted, accepted}
 use Rattle.tables.specs.Tables.{Kept, keeping}
 use Rattle.sources.specs.Source.{Source, source}
-use Rattle.entries.specs.declared.Answer.TheVariants as answer
 use Rattle.outcomes.specs.Outcomes.{Outcome, outcome}
 use Rattle.reads.specs.Reads.{read_of, go_on, reads_from}
 use Rattle.outcomes.specs.Keeping.{kept}
@@ -27,17 +26,17 @@ use Rattle.demands.specs.Refusals.{ReadCase, refuses, ends, keeps}
 use Rattle.demands.proofs.Lemmas.Ways.{read_case}
 use Rattle.numbering.specs.Types.{Rules}
 
-refused_way : (s : Source) (m : Kept) (r : Refusal) (o : Outcome) → ReadCase s m o → o.answer ≡ answer.Refused r → Untouched s m o
+refused_way : (s : Source) (m : Kept) (r : Refusal) (o : Outcome) → ReadCase s m o → o.answer ≡ Err r → Untouched s m o
 unfolding kept
 refused_way s m r o (refuses q y) e = record { cursors = refl; memory = refl }
 refused_way s m r o (ends a b c) e = record { cursors = refl; memory = refl }
-refused_way s m r o (keeps x first rows d a b c f) e = let z : ◌≡◌ {A = ℕ} 0 1 = cc in absurd (omega arith)
+refused_way s m r o (keeps x first rows d a b c f) e = cc
 
-done_way : (s : Source) (m : Kept) (o : Outcome) → ReadCase s m o → o.answer ≡ answer.Done → Untouched s m o
+done_way : (s : Source) (m : Kept) (o : Outcome) → ReadCase s m o → o.answer ≡ Ok None → Untouched s m o
 unfolding kept
 done_way s m o (refuses q y) e = record { cursors = refl; memory = refl }
 done_way s m o (ends a b c) e = record { cursors = refl; memory = refl }
-done_way s m o (keeps x first rows d a b c f) e = let z : ◌≡◌ {A = ℕ} 0 1 = cc in absurd (omega arith)
+done_way s m o (keeps x first rows d a b c f) e = cc
 
 pub read_refused : ReadRefused
 read_refused s m r e = refused_way s m r (read_of s m) (read_case s m) e
@@ -48,13 +47,13 @@ read_done s m e = done_way s m (read_of s m) (read_case s m) e
 pub open_refused : OpenRefused
 unfolding open_of
 open_refused n dir count cur r =
-    pick_holds (λ (o : Opening). o.answer ≡ opened.Refused r → o.cursors ≡ cur) (not (sound n dir cur)) _ _ (λ a e. refl)
-    (λ a. pick_holds (λ (o : Opening). o.answer ≡ opened.Refused r → o.cursors ≡ cur) (ltb 65536 count) _ _ (λ b e. refl)
-    (λ b e. let z : ◌≡◌ {A = ℕ} 0 1 = cc in absurd (omega arith)))
+    pick_holds (λ (o : Opening). o.answer ≡ Err r → o.cursors ≡ cur) (not (sound n dir cur)) _ _ (λ a e. refl)
+    (λ a. pick_holds (λ (o : Opening). o.answer ≡ Err r → o.cursors ≡ cur) (ltb 65536 count) _ _ (λ b e. refl)
+    (λ b e. cc))
 
 module _ (rules : Rules) (bytes dir : List ℕ) where
   -- one read more before it
-  one_more : (l : Lent) (o w : Outcome) (i : ℕ) → read rules bytes dir l ≡ o → o.answer ≡ answer.Kept i → Whole rules bytes dir (left o) w → Whole rules bytes dir l w
+  one_more : (l : Lent) (o w : Outcome) (i : ℕ) → read rules bytes dir l ≡ o → o.answer ≡ Ok (Some i) → Whole rules bytes dir (left o) w → Whole rules bytes dir l w
   one_more l o w i e k h = record {
     names = suc h.names;
     last = h.last;
@@ -65,7 +64,7 @@ module _ (rules : Rules) (bytes dir : List ℕ) where
   }
 
   -- a read that keeps no name is the last
-  the_last : (l : Lent) (o : Outcome) → read rules bytes dir l ≡ o → left o ≡ l → ((i : ℕ) → o.answer ≡ answer.Kept i → ⊥) → Whole rules bytes dir l o
+  the_last : (l : Lent) (o : Outcome) → read rules bytes dir l ≡ o → left o ≡ l → ((i : ℕ) → o.answer ≡ Ok (Some i) → ⊥) → Whole rules bytes dir l o
   the_last l o e k h = record { names = 0; last = l; before = none l; answers = sym (ap (λ (x : Outcome). x.answer) e); stops = h; stays = k }
 
   -- after one read, `rest` being the reads that follow
@@ -74,8 +73,8 @@ module _ (rules : Rules) (bytes dir : List ℕ) where
       → (l : Lent) → l.kept.state.names + suc f ≡ l.kept.state.count + 1 → l.kept.state.names ≤ l.kept.state.count
       → (o : Outcome) → read rules bytes dir l ≡ o → ReadCase (source rules bytes dir l.cur) l.kept o → Whole rules bytes dir l (go_on rest o o.answer)
   unfolding go_on left kept
-  turn f rest ih l h k o e (refuses q y) = the_last l o e refl (λ i z. let y : ◌≡◌ {A = ℕ} 0 1 = cc in omega arith)
-  turn f rest ih l h k o e (ends a b c) = the_last l o e refl (λ i z. let y : ◌≡◌ {A = ℕ} 0 1 = cc in omega arith)
+  turn f rest ih l h k o e (refuses q y) = the_last l o e refl (λ i z. cc)
+  turn f rest ih l h k o e (ends a b c) = the_last l o e refl (λ i z. cc)
   turn f rest ih l h k o e (keeps x first rows d a b c g) =
       one_more l o (rest o) l.kept.state.names e refl (ih o (omega arith) (omega (arith, b)))
 
@@ -95,4 +94,4 @@ block_reads s m count st cur e =
     let o : Accepted (length s.bytes) s.dir count s.cur st cur = accepted _ _ _ _ e in
     let k : st.names ≡ 0 = ap (λ (x : State). x.names) o.state in
     let c : st.count ≡ count = ap (λ (x : State). x.count) o.state in
-    rw e (all_reads s.rules s.bytes s.dir (count + 1) (outcome answer.Done cur (keeping st m.text m.names m.rows)) (omega arith) (omega arith))
+    rw e (all_reads s.rules s.bytes s.dir (count + 1) (outcome (Ok None) cur (keeping st m.text m.names m.rows)) (omega arith) (omega arith))

@@ -1,13 +1,12 @@
 -- Demand 1 for writing: a refused write leaves the directory and the bytes as they were.
 use Prim.Native.Nat.{ℕ}
-use mathlib.Core.Path.{◌≡◌, refl}
+use Rattle.inputs.specs.Inputs.{Judged}
+use Rattle.std.specs.Prelude.{Some, None}
+use mathlib.Core.Path.{refl}
 use mathlib.Core.List.{List}
-use native.Mathlib.Omega.{arith}
 use lib.Dec.{leb, eqb}
 use lib.ListN.{length}
 use Rattle.base.proofs.Choice.{pick_holds}
-use Rattle.inputs.specs.declared.Judged.{Judged}
-use Rattle.inputs.specs.declared.Judged.TheVariants.{Fine, Bad}
 use Rattle.inputs.specs.Inputs.{names_of, judged_from}
 use Rattle.nameputs.specs.NamePuts.{puts_of}
 use Rattle.laying.specs.Puts.{total_of}
@@ -19,13 +18,13 @@ laid : (rules : Rules) (names : List (List ℕ)) (dir bytes : List ℕ) → Unwr
 unfolding laid_of
 laid rules names dir bytes =
     pick_holds (Unwritten dir bytes) (leb (total_of (puts_of rules names)) (length bytes)) _ _
-    (λ a r e. let z : ◌≡◌ {A = ℕ} 0 1 = cc in absurd (omega arith))
+    (λ a r e. cc)
     (λ a r e. (refl, refl))
 
 judged : (rules : Rules) (j : Judged) (names : List (List ℕ)) (dir bytes : List ℕ) → Unwritten dir bytes (judged_of rules j names dir bytes)
 unfolding judged_of
-judged rules Fine names dir bytes = laid rules names dir bytes
-judged rules (Bad n) names dir bytes = λ r e. (refl, refl)
+judged rules None names dir bytes = laid rules names dir bytes
+judged rules (Some n) names dir bytes = λ r e. (refl, refl)
 
 pub write_refused : WriteRefused
 unfolding write_of

@@ -1,5 +1,5 @@
 -- What a read that keeps a name adds, and that it alters nothing else.
-use Rattle.std.specs.Prelude.{ℕ, ◌+◌, ◌*◌, ◌≤◌, ◌<◌, ◌≡◌, ◌⊎◌, List, length, get_or}
+use Rattle.std.specs.Prelude.{ℕ, ◌+◌, ◌*◌, ◌≤◌, ◌<◌, ◌≡◌, ◌⊎◌, List, length, get_or, Some, Ok}
 use Rattle.base.specs.Memory.{part}
 use Rattle.block.specs.Block.{cursor_of, state}
 use Rattle.block.specs.Open.{Open}
@@ -7,7 +7,6 @@ use Rattle.block.specs.Streams.{dup_stream, diff_stream}
 use Rattle.tables.specs.declared.Entry.{Entry}
 use Rattle.tables.specs.Tables.{Table, entry_size, Kept, entry_at, row_room, row_at, unused_part}
 use Rattle.sources.specs.Source.{Source}
-use Rattle.entries.specs.declared.Answer.TheVariants as answer
 use Rattle.outcomes.specs.Outcomes.{Outcome}
 use Rattle.earlier.specs.Back.{entry_back}
 use Rattle.reads.specs.Reads.{read_of}
@@ -67,4 +66,4 @@ pub record Adds (s : Source) (m : Kept) (number : ℕ) (o : Outcome) : Type 0 wh
 
 -- a read that keeps a name adds it and alters nothing else
 abbrev pub ReadAdds : Type 0
-ReadAdds = (s : Source) (m : Kept) (i : ℕ) → (read_of s m).answer ≡ answer.Kept i → Adds s m i (read_of s m)
+ReadAdds = (s : Source) (m : Kept) (i : ℕ) → (read_of s m).answer ≡ Ok (Some i) → Adds s m i (read_of s m)

@@ -1,25 +1,23 @@
 -- C-11: any name may start afresh, by DIFF with distance 0, and then has no earlier name.
-use Rattle.std.specs.Prelude.{ℕ, ◌≤◌, ◌<◌, ◌≡◌, Bool, true, false, List, ◌⊎◌, eqb}
+use Rattle.std.specs.Prelude.{ℕ, ◌≤◌, ◌<◌, ◌≡◌, Bool, true, false, List, ◌⊎◌, eqb, Some, Ok, Err}
+use Rattle.refusals.specs.declared.Reason.TheVariants as reason
 use Rattle.base.specs.Choice.{pick}
 use Rattle.spans.specs.declared.Cursor.{Cursor}
-use Rattle.spans.specs.declared.NextByte.TheVariants as byte
-use Rattle.block.specs.declared.Refusal.TheVariants as refusal
+use Rattle.refusals.specs.declared.Refusal.TheVariants as refusal
 use Rattle.block.specs.Streams.{type_stream, diff_stream}
 use Rattle.tables.specs.Tables.{Kept, entry_at, Table}
 use Rattle.numbering.specs.declared.TokenType.{TokenType}
 use Rattle.numbering.specs.declared.TokenType.TheVariants as type
 use Rattle.numbering.specs.Types.{type_of}
 use Rattle.sources.specs.Source.{Source, earlier, byte_in}
-use Rattle.values.specs.declared.Step.TheVariants as step
 use Rattle.steps.specs.Steps.{step_at}
 use Rattle.names.specs.Names.{name_of}
-use Rattle.entries.specs.declared.Answer.TheVariants as answer
 use Rattle.distances.specs.Distances.{dup_fits, diff_fits}
 use Rattle.heads.specs.Heads.{head_past}
 use Rattle.earlier.specs.Back.{none}
 use Rattle.naming.specs.Naming.{diff_of}
 use Rattle.reads.specs.Reads.{read_of}
-use Rattle.references.specs.declared.Reference.TheVariants.{Dup, Diff}
+use Rattle.distances.specs.declared.Reference.TheVariants.{Dup, Diff}
 use Rattle.references.specs.References.{reference_of}
 use Rattle.demands.specs.Refusals.{Ready, Heads, diff_in}
 
@@ -50,14 +48,14 @@ pub record ReadsAfresh (s : Source) (m : Kept) : Type 0 where
   pub alike : (text : List ℕ) (rows : Table)
       → name_of s (none m) m.state.text (head_past s.cur diff_stream) ≡ name_of s (earlier text rows 0 0) m.state.text (head_past s.cur diff_stream)
   -- a step at MATCH, DDELTA or DDELTA0 is refused with 5, whether or not a delta's byte is there; at position 128 it is 7 as in every name
-  pub fives : (p b : ℕ) (c : Cursor) → 1 ≤ p → p < 128 → byte_in s p type_stream ≡ byte.Value b c → Leaning (type_of s.rules.numbers b) → step_at s (none m) p ≡ step.Refused 5
+  pub fives : (p b : ℕ) (c : Cursor) → 1 ≤ p → p < 128 → byte_in s p type_stream ≡ Some (b, c) → Leaning (type_of s.rules.numbers b) → step_at s (none m) p ≡ Err reason.NoRow
   -- 4 isn't given, nor 13 for a name that is kept
-  pub never_4 : (read_of s m).answer ≡ answer.Refused (refusal.At 4 m.state.names) → ⊥
-  pub never_13 : (read_of s m).answer ≡ answer.Refused (refusal.At 13 m.state.names) → ⊥
+  pub never_4 : (read_of s m).answer ≡ Err (refusal.At reason.BadDistance m.state.names) → ⊥
+  pub never_13 : (read_of s m).answer ≡ Err (refusal.At reason.Outside m.state.names) → ⊥
   -- kept, it has none of these types among its tokens, and distance 0
-  pub plain : (i : ℕ) → (read_of s m).answer ≡ answer.Kept i → (p b : ℕ) (c : Cursor) → 1 ≤ p → p ≤ (entry_at (read_of s m).kept.names i).rows
-      → byte_in s p type_stream ≡ byte.Value b c → Leaning (type_of s.rules.numbers b) → ⊥
-  pub distance : (i : ℕ) → (read_of s m).answer ≡ answer.Kept i → (entry_at (read_of s m).kept.names i).distance ≡ 0
+  pub plain : (i : ℕ) → (read_of s m).answer ≡ Ok (Some i) → (p b : ℕ) (c : Cursor) → 1 ≤ p → p ≤ (entry_at (read_of s m).kept.names i).rows
+      → byte_in s p type_stream ≡ Some (b, c) → Leaning (type_of s.rules.numbers b) → ⊥
+  pub distance : (i : ℕ) → (read_of s m).answer ≡ Ok (Some i) → (entry_at (read_of s m).kept.names i).distance ≡ 0
 
 abbrev pub StartsAfresh : Type 0
 StartsAfresh =

@@ -1,5 +1,6 @@
 -- Blocks in which later names start afresh (C-11): what reading them comes to.
 use Rattle.std.specs.Prelude.{ℕ, List, [], ◌∷◌, ◌++◌}
+use Rattle.refusals.specs.declared.Reason.TheVariants as reason
 use Rattle.spans.specs.Spans.{four_bytes}
 use Rattle.block.specs.Streams.{type_stream, char_stream, dup_stream, diff_stream, digits_stream, ddelta_stream}
 use Rattle.numbering.specs.declared.TokenType.{TokenType}
@@ -43,7 +44,7 @@ afresh_cases =
         read_in wider 1 (both_afresh (Char ∷ Char ∷ []) (Char ∷ Match ∷ []) (stream 1 char_stream (97 ∷ 99 ∷ []) ∷ stream 2 char_stream (98 ∷ []) ∷ types 3 (End ∷ End ∷ []) ∷ [])),
         read_in wider 1 (both_afresh (Digits ∷ Delta ∷ []) (End ∷ End ∷ []) (stream 1 digits_stream (four_bytes 5) ∷ [])),
       );
-      said = (refused_at 5 1 (97 ∷ 98 ∷ 10 ∷ []), refused_at 5 1 (53 ∷ 10 ∷ []));
+      said = (refused_at reason.NoRow 1 (97 ∷ 98 ∷ 10 ∷ []), refused_at reason.NoRow 1 (53 ∷ 10 ∷ []));
     }
     -- past a fresh name: 5, 100, 6; on it, and by DUP: 5, 100, 101, 100
     ∷ record {
@@ -62,6 +63,6 @@ afresh_cases =
         read_in wider 1 (stream 0 type_stream (diff_number ∷ diff_number ∷ []) ∷ stream 0 diff_stream (four_bytes 0 ++ four_bytes 2) ∷ char_a),
         read_in wider 1 (stream 0 type_stream (diff_number ∷ diff_number ∷ []) ∷ stream 0 diff_stream (four_bytes 0 ++ four_bytes 0) ∷ char_a),
       );
-      said = (refused_at 4 1 (97 ∷ 10 ∷ []), refused_at 4 1 (97 ∷ 10 ∷ []), refused_at 2 1 (97 ∷ 10 ∷ []));
+      said = (refused_at reason.BadDistance 1 (97 ∷ 10 ∷ []), refused_at reason.BadDistance 1 (97 ∷ 10 ∷ []), refused_at reason.Short 1 (97 ∷ 10 ∷ []));
     }
     ∷ []

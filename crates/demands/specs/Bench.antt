@@ -1,21 +1,21 @@
 -- The bench cases of document 01 that are marked P: a line of its list is a case here, and each is a call, a block opened and read or names written.
-use Rattle.std.specs.Prelude.{ℕ, ◌-◌, List, [], ◌∷◌, ◌++◌, replicate}
+use Rattle.std.specs.Prelude.{ℕ, ◌-◌, List, [], ◌∷◌, ◌++◌, replicate, Some, Ok, Err}
 use Rattle.spans.specs.Spans.{four_bytes}
-use Rattle.block.specs.declared.Refusal.TheVariants as refusal
+use Rattle.refusals.specs.declared.Reason.{Reason}
+use Rattle.refusals.specs.declared.Refusal.TheVariants as refusal
+use Rattle.refusals.specs.declared.Reason.TheVariants as reason
 use Rattle.block.specs.Streams.{type_stream, string_stream, char_stream, digits0_stream, dzlen_stream, dup_stream, diff_stream, digits_stream, ddelta_stream, ddelta0_stream}
 use Rattle.numbering.specs.declared.TokenType.{TokenType}
 use Rattle.numbering.specs.declared.TokenType.TheVariants.{String, Char, Digits, Digits0, Delta, Delta0, Match, End}
-use Rattle.entries.specs.declared.Answer.TheVariants as answer
-use Rattle.writing.specs.declared.WriteAnswer.TheVariants.{Written}
 use Rattle.demands.specs.Cases.{dup_number, diff_number, Case, Buffers, Stream, stream, types, bytes_in, Told, read_in, WrittenIn, write_in}
 
 -- a block refused at a name, the text kept before it
-abbrev pub refused_at : ℕ → ℕ → List ℕ → Told
-refused_at r n text = record { answer = answer.Refused (refusal.At r n); text = text }
+abbrev pub refused_at : Reason → ℕ → List ℕ → Told
+refused_at r n text = record { answer = Err (refusal.At r n); text = text }
 
 -- a name kept, the last of this text
 abbrev pub passes : ℕ → List ℕ → Told
-passes n text = record { answer = answer.Kept n; text = text }
+passes n text = record { answer = Ok (Some n); text = text }
 
 -- room for two names of ten digits, four entries and two rows
 abbrev pub small : Buffers
@@ -88,23 +88,23 @@ token_cases =
     -- number 123, width 5 is "00123"
     record { kind = Told; given = digits0 123 5; said = passes 0 (48 ∷ 48 ∷ 49 ∷ 50 ∷ 51 ∷ 10 ∷ []) }
     -- number 0, width 1 is "0"; width 0 is 6
-    ∷ record { kind = Told × Told; given = (digits0 0 1, digits0 0 0); said = (passes 0 (48 ∷ 10 ∷ []), refused_at 6 0 []) }
+    ∷ record { kind = Told × Told; given = (digits0 0 1, digits0 0 0); said = (passes 0 (48 ∷ 10 ∷ []), refused_at reason.BadNumber 0 []) }
     -- 99, width 2 passes; 123, width 2 is 6
-    ∷ record { kind = Told × Told; given = (digits0 99 2, digits0 123 2); said = (passes 0 (57 ∷ 57 ∷ 10 ∷ []), refused_at 6 0 []) }
+    ∷ record { kind = Told × Told; given = (digits0 99 2, digits0 123 2); said = (passes 0 (57 ∷ 57 ∷ 10 ∷ []), refused_at reason.BadNumber 0 []) }
     -- 4,294,967,295 plus 0 passes, plus 1 is 6
     ∷ record {
       kind = Told × Told;
       given = (delta 4294967295 0, delta 4294967295 1);
       said = (
         passes 1 (52 ∷ 50 ∷ 57 ∷ 52 ∷ 57 ∷ 54 ∷ 55 ∷ 50 ∷ 57 ∷ 53 ∷ 10 ∷ 52 ∷ 50 ∷ 57 ∷ 52 ∷ 57 ∷ 54 ∷ 55 ∷ 50 ∷ 57 ∷ 53 ∷ 10 ∷ []),
-        refused_at 6 1 (52 ∷ 50 ∷ 57 ∷ 52 ∷ 57 ∷ 54 ∷ 55 ∷ 50 ∷ 57 ∷ 53 ∷ 10 ∷ []),
+        refused_at reason.BadNumber 1 (52 ∷ 50 ∷ 57 ∷ 52 ∷ 57 ∷ 54 ∷ 55 ∷ 50 ∷ 57 ∷ 53 ∷ 10 ∷ []),
       );
     }
     -- 99 plus 1 at width 2 is 6; at width 3 it is "100"
     ∷ record {
       kind = Told × Told;
       given = (delta0 99 2 1, delta0 99 3 1);
-      said = (refused_at 6 1 (57 ∷ 57 ∷ 10 ∷ []), passes 1 (48 ∷ 57 ∷ 57 ∷ 10 ∷ 49 ∷ 48 ∷ 48 ∷ 10 ∷ []));
+      said = (refused_at reason.BadNumber 1 (57 ∷ 57 ∷ 10 ∷ []), passes 1 (48 ∷ 57 ∷ 57 ∷ 10 ∷ 49 ∷ 48 ∷ 48 ∷ 10 ∷ []));
     }
     ∷ []
 
@@ -115,34 +115,34 @@ block_cases =
     record {
       kind = Told × Told × Told;
       given = (read_over 0 (headed dup_number dup_stream 0), read_over 0 (headed dup_number dup_stream 1), read_over 0 (headed diff_number diff_stream 1));
-      said = (refused_at 4 0 [], refused_at 4 0 [], refused_at 4 0 []);
+      said = (refused_at reason.BadDistance 0 [], refused_at reason.BadDistance 0 [], refused_at reason.BadDistance 0 []);
     }
     -- name 0 with MATCH is 5
-    ∷ record { kind = Told; given = read_over 0 (alone (Match ∷ []) [] []); said = refused_at 5 0 [] }
+    ∷ record { kind = Told; given = read_over 0 (alone (Match ∷ []) [] []); said = refused_at reason.NoRow 0 [] }
     -- name 3 with distance 3 passes, 4 is 4
     ∷ record {
       kind = Told × Told × Told × Told;
       given = (fourth_dup 3, fourth_dup 4, fourth_diff 3, fourth_diff 4);
       said = (
         passes 3 (65 ∷ 10 ∷ 65 ∷ 10 ∷ 65 ∷ 10 ∷ 65 ∷ 10 ∷ []),
-        refused_at 4 3 (65 ∷ 10 ∷ 65 ∷ 10 ∷ 65 ∷ 10 ∷ []),
+        refused_at reason.BadDistance 3 (65 ∷ 10 ∷ 65 ∷ 10 ∷ 65 ∷ 10 ∷ []),
         passes 3 (65 ∷ 10 ∷ 65 ∷ 10 ∷ 65 ∷ 10 ∷ 65 ∷ 10 ∷ []),
-        refused_at 4 3 (65 ∷ 10 ∷ 65 ∷ 10 ∷ 65 ∷ 10 ∷ []),
+        refused_at reason.BadDistance 3 (65 ∷ 10 ∷ 65 ∷ 10 ∷ 65 ∷ 10 ∷ []),
       );
     }
     -- END at position 1 is 8
-    ∷ record { kind = Told; given = read_over 0 (alone (End ∷ []) [] []); said = refused_at 8 0 [] }
+    ∷ record { kind = Told; given = read_over 0 (alone (End ∷ []) [] []); said = refused_at reason.BadName 0 [] }
     -- "?" and "A" pass, "@" and a space are 8
     ∷ record {
       kind = Told × Told × Told × Told;
       given = (char 63, char 65, char 64, char 32);
-      said = (passes 0 (63 ∷ 10 ∷ []), passes 0 (65 ∷ 10 ∷ []), refused_at 8 0 [], refused_at 8 0 []);
+      said = (passes 0 (63 ∷ 10 ∷ []), passes 0 (65 ∷ 10 ∷ []), refused_at reason.BadName 0 [], refused_at reason.BadName 0 []);
     }
     ∷ []
 
 -- names written: the spans that have bytes then, one after another, and behind their total what was there before
 abbrev pub wrote : ℕ → ℕ → List Stream → WrittenIn
-wrote names total xs = record { answer = Written names total; streams = xs; bytes = bytes_in xs ++ replicate (30 - total) 9 }
+wrote names total xs = record { answer = Ok (record { names = names; bytes = total }); streams = xs; bytes = bytes_in xs ++ replicate (30 - total) 9 }
 
 -- one name: DIGITS 123456789, DIGITS0 0/1
 abbrev pub cut_after_nine : List Stream
@@ -184,7 +184,7 @@ abbrev pub one_row : List ℕ → Case
 one_row text = record {
   kind = Told × Told;
   given = (matched text Match, matched text End);
-  said = (refused_at 5 1 (text ++ 10 ∷ []), passes 1 (text ++ 10 ∷ text ++ 10 ∷ []));
+  said = (refused_at reason.NoRow 1 (text ++ 10 ∷ []), passes 1 (text ++ 10 ∷ text ++ 10 ∷ []));
 }
 
 -- "Slips that tempt": STRING a1 isn't CHAR, DIGITS; and STRING A_B, as other writers have it, isn't three CHARs: C-14 splits what is written, not what is read

@@ -1,26 +1,27 @@
 -- The C boundary where its callers stand: what they see of a call's number, what a refused call leaves, calls one after another over what the one before left,
 -- and the demands there.
-use Rattle.std.specs.Prelude.{ℕ, suc, ◌^◌, ◌≤◌, ◌<◌, ◌≡◌, List, [], ◌∷◌, ◌⊎◌, eqb, length, get_or}
+use Rattle.std.specs.Option.{unwrap_or}
+use Rattle.std.specs.Prelude.{ℕ, suc, ◌^◌, ◌≤◌, ◌<◌, ◌≡◌, List, [], ◌∷◌, ◌⊎◌, eqb, length, get_or, Some, None, Ok, Err}
+use Rattle.block.specs.Block.{Opened}
+use Rattle.entries.specs.Entries.{Answer}
+use Rattle.claims.specs.Claims.{Claimed}
+use Rattle.writing.specs.Writes.{WriteAnswer}
+use Rattle.claims.specs.declared.Verdict.TheVariants as verdict
 use Rattle.base.specs.Choice.{pick}
-use Rattle.block.specs.declared.Refusal.{Refusal}
-use Rattle.block.specs.declared.Refusal.TheVariants as refusal
-use Rattle.block.specs.declared.Opened.{Opened}
-use Rattle.block.specs.declared.Opened.TheVariants as opened
+use Rattle.refusals.specs.Refusals.{number_of, reason_of}
+use Rattle.refusals.specs.declared.Reason.{Reason}
+use Rattle.refusals.specs.declared.Refusal.{Refusal}
+use Rattle.refusals.specs.declared.Refusal.TheVariants as refusal
+use Rattle.refusals.specs.declared.Reason.TheVariants as reason
 use Rattle.block.specs.Block.{open_of, state}
 use Rattle.block.specs.Streams.{diff_stream}
 use Rattle.tables.specs.Tables.{keeping, Table}
 use Rattle.sources.specs.Source.{source}
-use Rattle.entries.specs.declared.Answer.{Answer}
-use Rattle.entries.specs.declared.Answer.TheVariants as answer
 use Rattle.earlier.specs.Back.{none}
 use Rattle.naming.specs.Naming.{diff_of}
 use Rattle.reads.specs.Reads.{read_of}
 use Rattle.reading.specs.Blocks.{block_of}
-use Rattle.claims.specs.declared.Verdict.{Verdict}
-use Rattle.claims.specs.declared.Verdict.TheVariants as verdict
 use Rattle.claims.specs.Claims.{claim_of}
-use Rattle.writing.specs.declared.WriteAnswer.{WriteAnswer}
-use Rattle.writing.specs.declared.WriteAnswer.TheVariants as written
 use Rattle.writing.specs.Writes.{write_of}
 use Rattle.codes.specs.Codes.{packed, no_name, state_in, state_out}
 use Rattle.opencalls.specs.Calls.{Opens, opens, open_call}
@@ -54,7 +55,7 @@ OpenCallStopped =
 -- and it does where it is refused
 abbrev pub OpenCallStops : Type 0
 OpenCallStops =
-    (bytes dir : List ℕ) (count : ℕ) (cur st : List ℕ) (r : Refusal) → (open_of (length bytes) dir count cur).answer ≡ opened.Refused r
+    (bytes dir : List ℕ) (count : ℕ) (cur st : List ℕ) (r : Refusal) → (open_of (length bytes) dir count cur).answer ≡ Err r
     → Stopped (open_call bytes dir count cur st).number
 
 -- a read that answers another code than 0, refused or done, leaves the cursors, the text, the names, the rows and the state
@@ -67,7 +68,7 @@ ReadCallStopped =
 abbrev pub ReadCallStops : Type 0
 ReadCallStops =
     (rules : Rules) (bytes dir cur text names : List ℕ) (rows : Table) (st : List ℕ)
-    → ((i : ℕ) → (read_of (source rules bytes dir cur) (keeping (state_in st) text names rows)).answer ≡ answer.Kept i → ⊥)
+    → ((i : ℕ) → (read_of (source rules bytes dir cur) (keeping (state_in st) text names rows)).answer ≡ Ok (Some i) → ⊥)
     → Stopped (read_call rules bytes dir cur text names rows st).number
 
 -- writing that answers another code than 0 leaves the directory, the bytes and the totals
@@ -79,7 +80,7 @@ WriteCallStopped =
 -- and it does where it is refused
 abbrev pub WriteCallStops : Type 0
 WriteCallStops =
-    (rules : Rules) (input dir bytes totals : List ℕ) (r : Refusal) → (write_of rules input dir bytes).answer ≡ written.Refused r
+    (rules : Rules) (input dir bytes totals : List ℕ) (r : Refusal) → (write_of rules input dir bytes).answer ≡ Err r
     → Stopped (write_call rules input dir bytes totals).number
 
 -- a whole-block read whose opening answers another code than 0 answers that, and leaves everything as it was
@@ -88,12 +89,17 @@ BlockCallStopped =
     (rules : Rules) (bytes dir : List ℕ) (count : ℕ) (cur text names : List ℕ) (rows : Table) (st : List ℕ) → length st ≡ 4 → Stopped (open_call bytes dir count cur st).number
     → block_call rules bytes dir count cur text names rows st ≡ reads (open_call bytes dir count cur st).number cur text names rows st
 
+-- a code that a call can answer: 0, 256 for "done", or the number of a reason
+abbrev pub IsCode : ℕ → Type 0
+IsCode code = (code ≡ 0) ⊎ ((code ≡ 256) ⊎ ((r : Reason) × (number_of r ≡ code)))
+
 -- a number tells an answer: it has one code, below 2^32, and one value, and these tell it
 pub record NumberTells {A : Type 0} (number : ℕ) (told : ℕ → ℕ → A) (a : A) : Type 0 where
   pub code : ℕ
   pub value : ℕ
   pub low : code < 2 ^ 32
   pub is : number ≡ packed code value
+  pub known : IsCode code
   pub one : (c v : ℕ) → c < 2 ^ 32 → number ≡ packed c v → (c ≡ code) × (v ≡ value)
   pub tells : a ≡ told code value
 
@@ -101,25 +107,29 @@ pub record NumberTells {A : Type 0} (number : ℕ) (told : ℕ → ℕ → A) (a
 abbrev pub SameAnswer : {A : Type 0} → (ℕ → ℕ → A) → A → A → Type 0
 SameAnswer told a b = (m n : ℕ) → NumberTells m told a → NumberTells n told b → m ≡ n → a ≡ b
 
+-- the reason that a code tells; where it is no reason's number it tells nothing (`IsCode`), and any reason will do here
+unfoldable pub told_reason : ℕ → Reason
+told_reason code = unwrap_or (reason_of code) reason.Unsound
+
 -- what a code and a value tell of a refusal: no name goes with it where the value says so, but for 11, which always has the number claimed
 unfoldable pub told_refusal : ℕ → ℕ → Refusal
-told_refusal code value = pick (eqb code 11) (refusal.At code value) (pick (eqb value no_name) (refusal.Plain code) (refusal.At code value))
+told_refusal code value = pick (eqb code 11) (refusal.At (told_reason code) value) (pick (eqb value no_name) (refusal.Plain (told_reason code)) (refusal.At (told_reason code) value))
 
 -- of a read or a whole block; the value of "done" is k
 unfoldable pub told_read : ℕ → ℕ → Answer
-told_read code value = pick (eqb code 0) (answer.Kept value) (pick (eqb code 256) answer.Done (answer.Refused (told_refusal code value)))
+told_read code value = pick (eqb code 0) (Ok (Some value)) (pick (eqb code 256) (Ok None) (Err (told_refusal code value)))
 
 -- of an opening: its state isn't in the number, but it is the fresh one for the count that was handed in
 unfoldable pub told_opening : ℕ → ℕ → ℕ → Opened
-told_opening count code value = pick (eqb code 0) (opened.Fresh (state count 0 0 0)) (opened.Refused (told_refusal code value))
+told_opening count code value = pick (eqb code 0) (Ok (state count 0 0 0)) (Err (told_refusal code value))
 
 -- of a claim
-unfoldable pub told_verdict : ℕ → ℕ → Verdict
-told_verdict code value = pick (eqb code 0) (pick (eqb value 1) verdict.Confirmed verdict.Denied) (verdict.Refused (told_refusal code value))
+unfoldable pub told_verdict : ℕ → ℕ → Claimed
+told_verdict code value = pick (eqb code 0) (pick (eqb value 1) (Ok verdict.Confirmed) (Ok verdict.Denied)) (Err (told_refusal code value))
 
 -- of a writing: the number of names isn't in the number, but it is the first of the totals that it left
 unfoldable pub told_writing : List ℕ → ℕ → ℕ → WriteAnswer
-told_writing totals code value = pick (eqb code 0) (written.Written (get_or totals 0 0) value) (written.Refused (told_refusal code value))
+told_writing totals code value = pick (eqb code 0) (Ok (record { names = get_or totals 0 0; bytes = value })) (Err (told_refusal code value))
 
 -- the number of every call tells its answer
 abbrev pub OpeningTold : Type 0
@@ -185,7 +195,7 @@ BlockCallReads = PastOpening WholeCall
 pub data StopSays (k : ℕ) : ℕ → Type 0 where
   says_done : StopSays k (packed 256 k)
   says_left_over : StopSays k (packed 10 no_name)
-  says_by_rules : (r : ℕ) → ByRule r → StopSays k (packed r k)
+  says_by_rules : (r : Reason) → ByRule r → StopSays k (packed (number_of r) k)
 
 -- a number hasn't this code, whatever the value
 abbrev pub Never : ℕ → ℕ → Type 0

@@ -1,19 +1,17 @@
 -- How the bench cases are said: small blocks from their streams, opened and read, and names written into streams.
-use Rattle.std.specs.Prelude.{ℕ, ◌+◌, ◌*◌, ◌≡◌, Bool, true, List, [], ◌∷◌, ◌++◌, leb, length, set, take, replicate}
+use Rattle.std.specs.Prelude.{ℕ, ◌+◌, ◌*◌, ◌≡◌, Bool, true, List, [], ◌∷◌, ◌++◌, leb, length, set, take, replicate, Ok, Err}
+use Rattle.block.specs.Block.{Opened}
+use Rattle.entries.specs.Entries.{Answer}
+use Rattle.writing.specs.Writes.{WriteAnswer}
 use Rattle.base.specs.Choice.{both}
 use Rattle.base.specs.Memory.{part}
 use Rattle.block.specs.declared.State.{State}
-use Rattle.block.specs.declared.Opened.{Opened}
-use Rattle.block.specs.declared.Opened.TheVariants as opened
 use Rattle.block.specs.Streams.{type_stream}
 use Rattle.block.specs.Block.{span_of, start_of, end_of, Opening, open_of}
 use Rattle.numbering.specs.declared.TokenType.{TokenType}
 use Rattle.numbering.specs.Types.{type_number, draft_numbers, Rules, rules_of, draft_plain}
 use Rattle.tables.specs.Tables.{in_rows, Kept, keeping}
-use Rattle.entries.specs.declared.Answer.{Answer}
-use Rattle.entries.specs.declared.Answer.TheVariants as answer
 use Rattle.outcomes.specs.Outcomes.{Outcome}
-use Rattle.writing.specs.declared.WriteAnswer.{WriteAnswer}
 use Rattle.writing.specs.Writes.{Writing, write_of}
 use Rattle.demands.specs.Runs.{lent, read, run, reading}
 
@@ -90,8 +88,8 @@ told o = record { answer = o.answer; text = take o.kept.state.text o.kept.text }
 
 -- n reads of a block that is opened, and the read after them; nothing is read where opening is refused
 unfoldable pub read_from : Buffers → ℕ → List Stream → List ℕ → Opened → Told
-read_from b n xs cur (opened.Fresh s) = told (read draft_rules (bytes_in xs) (dir_from 0 xs) (run draft_rules (bytes_in xs) (dir_from 0 xs) (lent cur (empty b s)) (replicate n reading)))
-read_from b n xs cur (opened.Refused r) = record { answer = answer.Refused r; text = [] }
+read_from b n xs cur (Ok s) = told (read draft_rules (bytes_in xs) (dir_from 0 xs) (run draft_rules (bytes_in xs) (dir_from 0 xs) (lent cur (empty b s)) (replicate n reading)))
+read_from b n xs cur (Err r) = record { answer = Err r; text = [] }
 
 -- opening a block of so many names, over cursors that hold nothing yet
 unfoldable pub open_in : ℕ → List Stream → Opening

@@ -1,14 +1,14 @@
 -- C-22, demand 1 of a replay: what it can come to, each case with its cause, and what holds of the table after any trace.
 -- 18 is the one refusal of a single call that leaves changed memory: "the table keeps what the symbols before it did, which demand 1 then allows".
-use Rattle.std.specs.Prelude.{ℕ, ◌≤◌, ◌<◌, ◌≡◌, Bool, true, List, [], ◌∷◌, ◌++◌, ◌⊎◌, ltb, eqb}
+use Rattle.std.specs.Prelude.{ℕ, ⊤, ◌≤◌, ◌<◌, ◌≡◌, Bool, true, List, [], ◌∷◌, ◌++◌, ◌⊎◌, Result, Ok, Err, ltb, eqb}
 use Rattle.base.specs.Choice.{pick}
 use Rattle.base.specs.Every.{every}
-use Rattle.block.specs.declared.Refusal.TheVariants.{Plain}
+use Rattle.refusals.specs.declared.Reason.TheVariants.{BadSize, BadSymbol}
+use Rattle.refusals.specs.declared.Refusal.{Refusal}
+use Rattle.refusals.specs.declared.Refusal.TheVariants.{Plain}
 use Rattle.model.specs.declared.Model.{Model}
 use Rattle.model.specs.Model.{places, started, place_of, step_at}
 use Rattle.model.specs.Sound.{Sound}
-use Rattle.replays.specs.declared.Replayed.{Replayed}
-use Rattle.replays.specs.declared.Replayed.TheVariants.{Whole, Refused}
 use Rattle.replays.specs.Replays.{Replaying, replaying, replay_fresh, with_table, in_place, replay_of}
 use Rattle.codes.specs.Codes.{packed, no_name}
 use Rattle.modelcalls.specs.Calls.{Replays, replays, replay_call}
@@ -28,10 +28,10 @@ known n trace = every (λ s. ltb s n) trace
 -- A symbol outside the table: 18, and the table is started and has the steps of the symbols before it, and of none behind it.
 -- No such symbol: the steps of all.
 pub data ReplayCase (n : ℕ) (trace : List ℕ) (m : Model) : Replaying → Type 0 where
-  replays_17 : (n ≡ 0) ⊎ (places < n) → ReplayCase n trace m (replaying (Refused (Plain 17)) m)
+  replays_17 : (n ≡ 0) ⊎ (places < n) → ReplayCase n trace m (replaying (Err (Plain BadSize)) m)
   replays_18 : 1 ≤ n → n ≤ places → (before : List ℕ) (s : ℕ) (rest : List ℕ) → trace ≡ before ++ s ∷ rest → known n before ≡ true → n ≤ s
-      → ReplayCase n trace m (in_place m (replaying (Refused (Plain 18)) (seen (started n) before)))
-  replays_all : 1 ≤ n → n ≤ places → known n trace ≡ true → ReplayCase n trace m (in_place m (replaying Whole (seen (started n) trace)))
+      → ReplayCase n trace m (in_place m (replaying (Err (Plain BadSymbol)) (seen (started n) before)))
+  replays_all : 1 ≤ n → n ≤ places → known n trace ≡ true → ReplayCase n trace m (in_place m (replaying (Ok tt) (seen (started n) trace)))
 
 -- what a replay comes to has its cause
 abbrev pub ReplayHasCase : Type 0
@@ -43,7 +43,7 @@ CaseReplays = (n : ℕ) (trace : List ℕ) (m : Model) (r : Replaying) → Repla
 
 -- 17 leaves the record, whatever the trace
 abbrev pub Replay17 : Type 0
-Replay17 = (n : ℕ) (trace : List ℕ) (m : Model) → (n ≡ 0) ⊎ (places < n) → replay_of n trace m ≡ replaying (Refused (Plain 17)) m
+Replay17 = (n : ℕ) (trace : List ℕ) (m : Model) → (n ≡ 0) ⊎ (places < n) → replay_of n trace m ≡ replaying (Err (Plain BadSize)) m
 
 -- after any symbols of the table it is sound
 abbrev pub AlwaysSound : Type 0
@@ -113,8 +113,8 @@ abbrev pub OneReplayCall : Type 0
 OneReplayCall = (n : ℕ) (trace : List ℕ) (m : Model) (x y : Replays) → OneOutcome (replay_call n trace m) x y
 
 -- what a code and a value tell of a replay
-unfoldable pub told_replay : ℕ → ℕ → Replayed
-told_replay code value = pick (eqb code 0) Whole (Refused (told_refusal code value))
+unfoldable pub told_replay : ℕ → ℕ → Result ⊤ Refusal
+told_replay code value = pick (eqb code 0) (Ok tt) (Err (told_refusal code value))
 
 abbrev pub ReplayTold : Type 0
 ReplayTold = (n : ℕ) (trace : List ℕ) (m : Model) → NumberTells (replay_call n trace m).number told_replay (replay_of n trace m).answer

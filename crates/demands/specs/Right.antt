@@ -1,15 +1,16 @@
 -- Demand 3: what holds of the kept tables at all times.
-use Rattle.std.specs.Prelude.{ℕ, ◌+◌, ◌≤◌, ◌<◌, ◌≡◌, List, ◌⊎◌, get_or, replicate}
+use Rattle.std.specs.Prelude.{ℕ, ◌+◌, ◌≤◌, ◌<◌, ◌≡◌, List, ◌⊎◌, get_or, replicate, Ok, Err}
+use Rattle.refusals.specs.declared.Reason.{Reason}
+use Rattle.refusals.specs.declared.Reason.TheVariants as reason
+use Rattle.claims.specs.declared.Verdict.TheVariants as verdict
 use Rattle.block.specs.declared.State.{State}
-use Rattle.block.specs.declared.Refusal.{Refusal}
-use Rattle.block.specs.declared.Refusal.TheVariants as refusal
+use Rattle.refusals.specs.declared.Refusal.{Refusal}
+use Rattle.refusals.specs.declared.Refusal.TheVariants as refusal
 use Rattle.block.specs.Open.{Open}
 use Rattle.tables.specs.Tables.{Kept, entry_at, row_at, Table}
 use Rattle.kept.specs.Inside.{Counted, TextInside, RowsInside, RowInside}
 use Rattle.sources.specs.Source.{Source}
-use Rattle.entries.specs.declared.Answer.TheVariants as answer
 use Rattle.reading.specs.Blocks.{block_of}
-use Rattle.claims.specs.declared.Verdict.TheVariants.{Confirmed, Denied, Refused}
 use Rattle.claims.specs.Claims.{name_text}
 use Rattle.demands.specs.Printing.{row_text, row_prints, rows_print}
 use Rattle.demands.specs.ByWords.{ByWords}
@@ -61,16 +62,16 @@ pub record Right (rules : Rules) (bytes dir : List ℕ) (b : Telling) (l : Lent)
 -- a claim: on a name already read it is confirmed if its bytes are all of that name's bytes and nothing else, denied otherwise;
 -- on a later name it is refused as not yet read
 pub record Judged (l : Lent) (number : ℕ) (claim : List ℕ) : Type 0 where
-  pub confirmed : number < l.kept.state.names → claim ≡ name_at l number → claimed l number claim ≡ Confirmed
-  pub only : claimed l number claim ≡ Confirmed → (number < l.kept.state.names) × (claim ≡ name_at l number)
-  pub denied : number < l.kept.state.names → (claim ≡ name_at l number → ⊥) → claimed l number claim ≡ Denied
-  pub unread : l.kept.state.names ≤ number → claimed l number claim ≡ Refused (refusal.At 11 number)
-  pub never_13 : (claimed l number claim ≡ Refused (refusal.Plain 13) → ⊥) × (claimed l number claim ≡ Refused (refusal.At 13 number) → ⊥)
+  pub confirmed : number < l.kept.state.names → claim ≡ name_at l number → claimed l number claim ≡ Ok verdict.Confirmed
+  pub only : claimed l number claim ≡ Ok verdict.Confirmed → (number < l.kept.state.names) × (claim ≡ name_at l number)
+  pub denied : number < l.kept.state.names → (claim ≡ name_at l number → ⊥) → claimed l number claim ≡ Ok verdict.Denied
+  pub unread : l.kept.state.names ≤ number → claimed l number claim ≡ Err (refusal.At reason.NoSuchName number)
+  pub never_13 : (claimed l number claim ≡ Err (refusal.Plain reason.Outside) → ⊥) × (claimed l number claim ≡ Err (refusal.At reason.Outside number) → ⊥)
 
 -- a refusal of a read that is no fault of the memory: 10 for what is left unread, or 2 to 9 for the name being read
 pub data Sane (l : Lent) : Refusal → Type 0 where
-  left_over : l.kept.state.names ≡ l.kept.state.count → Sane l (refusal.Plain 10)
-  by_rules : (r : ℕ) → ByRule r → Sane l (refusal.At r l.kept.state.names)
+  left_over : l.kept.state.names ≡ l.kept.state.count → Sane l (refusal.Plain reason.Unread)
+  by_rules : (r : Reason) → ByRule r → Sane l (refusal.At r l.kept.state.names)
 
 -- all of demand 3, for a memory z that came from a fresh start l
 pub record Demand3 (rules : Rules) (bytes dir : List ℕ) (l z : Lent) : Type 0 where
@@ -82,7 +83,7 @@ pub record Demand3 (rules : Rules) (bytes dir : List ℕ) (l z : Lent) : Type 0 
   -- what is kept is what as many reads in a row keep, whatever was claimed or refused in between
   pub reads : Reads rules bytes dir l z
   -- no read is refused for what is kept
-  pub refusals : (r : Refusal) → (read rules bytes dir z).answer ≡ answer.Refused r → Sane z r
+  pub refusals : (r : Refusal) → (read rules bytes dir z).answer ≡ Err r → Sane z r
 
 -- at all times, so after any calls from a fresh start: the counts and cursors are sound, every kept name's tokens, printed end to end, are that name,
 -- each row is the one that the words say, and each reference, a distance of 1 or more (C-11), points to a lower number
@@ -118,7 +119,7 @@ FirstNames =
 abbrev pub AlwaysSane : Type 0
 AlwaysSane =
     (rules : Rules) (bytes dir : List ℕ) (count : ℕ) (l : Lent) → Fresh bytes dir count l
-    → (calls : List Call) (q : Refusal) → (read rules bytes dir (run rules bytes dir l calls)).answer ≡ answer.Refused q → Sane (run rules bytes dir l calls) q
+    → (calls : List Call) (q : Refusal) → (read rules bytes dir (run rules bytes dir l calls)).answer ≡ Err q → Sane (run rules bytes dir l calls) q
 
 -- demand 3: start fresh on one block and make any sequence of reads and claims, refused ones too
 abbrev pub AlwaysDemand3 : Type 0

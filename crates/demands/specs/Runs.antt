@@ -1,14 +1,12 @@
 -- Calls one after another over one block, the memory handed on as each left it.
-use Rattle.std.specs.Prelude.{ℕ, suc, ◌≡◌, List, [], ◌∷◌, length}
-use Rattle.block.specs.declared.Opened.TheVariants as opened
+use Rattle.std.specs.Prelude.{ℕ, suc, ◌≡◌, List, [], ◌∷◌, length, Some, Ok}
+use Rattle.claims.specs.Claims.{Claimed}
 use Rattle.block.specs.declared.State.{State}
 use Rattle.block.specs.Block.{open_of, opening}
 use Rattle.tables.specs.Tables.{Kept, keeping, entry_at}
 use Rattle.sources.specs.Source.{Source, source}
-use Rattle.entries.specs.declared.Answer.TheVariants as answer
 use Rattle.outcomes.specs.Outcomes.{Outcome}
 use Rattle.reads.specs.Reads.{read_of}
-use Rattle.claims.specs.declared.Verdict.{Verdict}
 use Rattle.claims.specs.Claims.{name_text, claim_of}
 use Rattle.numbering.specs.Types.{Rules}
 
@@ -31,7 +29,7 @@ left o = lent o.cur o.kept
 -- so many reads in a row, each of which keeps a name, lead from one memory to another
 pub data Keeps (rules : Rules) (bytes dir : List ℕ) : ℕ → Lent → Lent → Type 0 where
   none : (l : Lent) → Keeps rules bytes dir 0 l l
-  next : (n i : ℕ) (l z : Lent) → (read rules bytes dir l).answer ≡ answer.Kept i → Keeps rules bytes dir n (left (read rules bytes dir l)) z → Keeps rules bytes dir (suc n) l z
+  next : (n i : ℕ) (l z : Lent) → (read rules bytes dir l).answer ≡ Ok (Some i) → Keeps rules bytes dir n (left (read rules bytes dir l)) z → Keeps rules bytes dir (suc n) l z
 
 -- some number of reads, each of which keeps a name
 pub record Reads (rules : Rules) (bytes dir : List ℕ) (l z : Lent) : Type 0 where
@@ -42,12 +40,12 @@ pub record Reads (rules : Rules) (bytes dir : List ℕ) (l z : Lent) : Type 0 wh
 pub record Fresh (bytes dir : List ℕ) (count : ℕ) (l : Lent) : Type 0 where
   pub old : List ℕ
   pub state : State
-  pub opens : open_of (length bytes) dir count old ≡ opening (opened.Fresh state) l.cur
+  pub opens : open_of (length bytes) dir count old ≡ opening (Ok state) l.cur
   pub begins : l.kept.state ≡ state
 
 -- a whole-block read whose opening accepts the block, with the state and the cursors that it leaves
 abbrev pub Accepts : Source → ℕ → State → List ℕ → Type 0
-Accepts s count st cur = open_of (length s.bytes) s.dir count s.cur ≡ opening (opened.Fresh st) cur
+Accepts s count st cur = open_of (length s.bytes) s.dir count s.cur ≡ opening (Ok st) cur
 
 -- what its reads begin with: these, and the buffers as they were lent
 abbrev pub fresh_over : Kept → State → List ℕ → Lent
@@ -69,7 +67,7 @@ run rules bytes dir l [] = l
 run rules bytes dir l (c ∷ cs) = run rules bytes dir (after rules bytes dir l c) cs
 
 -- what a claim answers over what is lent
-unfoldable pub claimed : Lent → ℕ → List ℕ → Verdict
+unfoldable pub claimed : Lent → ℕ → List ℕ → Claimed
 claimed l number claim = claim_of number claim l.kept.state l.kept.text l.kept.names
 
 -- the bytes of a kept name

@@ -1,5 +1,6 @@
 -- An earlier name as the judgement found it, and DUP over it, in a contract's direction.
 use Prim.Native.Nat.{ℕ, ◌+◌, ◌-◌, ◌*◌, ◌≤◌, ◌<◌}
+use Rattle.refusals.specs.declared.Reason.TheVariants as reason
 use mathlib.Core.Path.{◌≡◌, sym, ap, ◌∙◌}
 use mathlib.Core.Bool.{Bool, true, false}
 use mathlib.Core.List.{List, []}
@@ -70,6 +71,6 @@ module _ (rules : Rules) (bytes dir cur text names : List ℕ) (rows : Table) (s
         → o ≡ dup_of (source rules bytes dir cur) (keeping st text names rows) d e → i ≡ st.names - d → o ≡ dup_judged (source rules bytes dir cur) (keeping st text names rows) d
     dup_fit h q r s = took _ _ (far_fits s h) (r ∙ ap (dup_of (source rules bytes dir cur) (keeping st text names rows) d) (far_entry s q))
 
-    pub dup_unfit : earlier_fits (keeping st text names rows) i ≡ false → {r : Reading} → r ≡ refusing st 13 → i ≡ st.names - d
+    pub dup_unfit : earlier_fits (keeping st text names rows) i ≡ false → {r : Reading} → r ≡ refusing st reason.Outside → i ≡ st.names - d
         → outcome r.answer cur (keeping r.state text names rows) ≡ dup_judged (source rules bytes dir cur) (keeping st text names rows) d
-    dup_unfit h q s = left _ _ (far_fits s h) (refused_at_law rules bytes dir cur text names rows st 13 q)
+    dup_unfit h q s = left _ _ (far_fits s h) (refused_at_law rules bytes dir cur text names rows st reason.Outside q)

@@ -15,8 +15,9 @@ ghost use Rattle.dupdiff.specs.Judged.{dup_judged, diff_judged};
 ghost use Rattle.block.specs.Streams.{dup_stream, diff_stream};
 
 use block::{Setting, State};
-use earlier::Back;
+use earlier::Rows;
 use entries::Reading;
+use refusals::Reason;
 use spans::Distance;
 
 // DUP, with the earlier name judged or known to fit.
@@ -40,7 +41,7 @@ pub fn dup(
         let e = tables::entry_at(entries, back);
         copying::copied(cursors, text, entries, rows, state, distance, e)
     } else {
-        outcomes::refuse(13, state)
+        outcomes::refuse(Reason::Outside, state)
     }
 }
 
@@ -65,14 +66,14 @@ pub fn diff(
 {
     // Asked here, so that nothing is handed on to a judgement that isn't made.
     let back = if known {
-        earlier::said_back(state, entries, distance)
+        Ok(earlier::said_back(state, entries, distance))
     } else {
         earlier::leans(state, entries, rows, distance)
     };
     match back {
-        Back::Rows { first, count } => naming::named(
+        Ok(Rows { first, count }) => naming::named(
             set, known, bytes, dir, cursors, text, entries, rows, state, distance, first, count,
         ),
-        Back::Outside => outcomes::refuse(13, state),
+        Err(r) => outcomes::refuse(r, state),
     }
 }

@@ -1,5 +1,6 @@
 -- Room for a name, told as the code tells it, and what it gives; and the state after the name.
 use Prim.Native.Nat.{ℕ, ◌+◌, ◌*◌, ◌^◌, ◌≤◌, ◌<◌}
+use Rattle.std.specs.Prelude.{Some, Ok}
 use mathlib.Core.Path.{◌≡◌, sym, ◌∙◌}
 use mathlib.Core.Bool.{true}
 use mathlib.Core.List.{List}
@@ -15,7 +16,6 @@ use Rattle.tables.specs.Tables.{keeping, entry_size, row_size, Table, row_room, 
 use Rattle.kept.specs.Inside.{Counted}
 use Rattle.tables.proofs.Room.{room_holds}
 use Rattle.tables.proofs.Rows.{room_numbers, numbers_room}
-use Rattle.entries.specs.declared.Answer.TheVariants as answer
 use Rattle.entries.specs.Entries.{reading, keeping_name, room_of}
 
 -- room for so many rows, told without dividing
@@ -29,7 +29,7 @@ room_test l k =
 
 -- the answer and the state after a name that is kept
 pub entered : (st : State) (size added : ℕ) {k n t r : ℕ} → k ≡ st.names → n ≡ st.names + 1 → t ≡ st.text + size + 1 → r ≡ st.rows + added
-    → reading (answer.Kept k) (state st.count n t r) ≡ keeping_name st size added
+    → reading (Ok (Some k)) (state st.count n t r) ≡ keeping_name st size added
 unfolding keeping_name
 entered st size added p q t r = rw (p, q, t, r)
 

@@ -1,12 +1,15 @@
 -- Room for a name, its entry, and the state after it.
-use Rattle.std.specs.Prelude.{ℕ, ◌+◌, Bool, List, leb, length}
+use Rattle.std.specs.Prelude.{ℕ, ◌+◌, Bool, List, leb, length, Result, Option, Some, Ok}
+use Rattle.refusals.specs.declared.Refusal.{Refusal}
 use Rattle.base.specs.Choice.{both}
 use Rattle.block.specs.declared.State.{State}
 use Rattle.block.specs.Block.{state}
 use Rattle.tables.specs.Tables.{Kept, entry_size, room, row_room, entry_numbers}
 use Rattle.entries.specs.declared.Reading.{Reading}
-use Rattle.entries.specs.declared.Answer.{Answer}
-use Rattle.entries.specs.declared.Answer.TheVariants as answer
+
+-- the answer of a read: the number of the name that it keeps, none at the end of the block, or its refusal
+abbrev pub Answer : Type 0
+Answer = Result (Option ℕ) Refusal
 
 -- 9: room for a text of so many bytes with its byte 10, the name's numbers and so many rows
 abbrev pub room_of : Kept → ℕ → ℕ → Bool
@@ -24,7 +27,7 @@ abbrev pub state_after : State → ℕ → ℕ → State
 state_after s bytes added = state s.count (s.names + 1) (s.text + bytes + 1) (s.rows + added)
 
 unfoldable pub keeping_name : State → ℕ → ℕ → Reading
-keeping_name s bytes added = reading (answer.Kept s.names) (state_after s bytes added)
+keeping_name s bytes added = reading (Ok (Some s.names)) (state_after s bytes added)
 
 -- the numbers of a name's entry
 abbrev pub entry_of : State → ℕ → ℕ → ℕ → ℕ → List ℕ

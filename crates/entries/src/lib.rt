@@ -6,17 +6,13 @@ ghost use Rattle.base.specs.Memory.{written};
 ghost use Rattle.tables.specs.Tables.{entry_size, tables_lent};
 ghost use Rattle.entries.specs.Entries.{room_of, entry_of, keeping_name};
 
-use block::{Refusal, State};
+use block::State;
+use refusals::Refusal;
 use spans::Distance;
 use tables::Entry;
 
-// A read keeps a name and answers its number, or finds the block at its end, or refuses.
-#[derive(Clone, Copy)]
-pub enum Answer {
-    Kept(u32),
-    Done,
-    Refused(Refusal),
-}
+// A read keeps a name and answers its number, or finds the block at its end and answers none, or refuses.
+pub type Answer = Result<Option<u32>, Refusal>;
 
 // The answer of a read, and the state after it.
 #[derive(Clone, Copy)]
@@ -36,13 +32,9 @@ pub fn has_room(
 ) -> bool
     ensures { result ≡ room_of (tables_lent state text.now entries.now rows.now) bytes added }
 {
-    if text.len() < (state.text as usize) + (bytes as usize) + 1 {
-        return false;
-    }
-    if entries.len() < tables::ENTRY * ((state.names as usize) + 1) {
-        return false;
-    }
-    tables::ROW * ((state.rows as usize) + (added as usize)) <= rows.len()
+    (state.text as usize) + (bytes as usize) + 1 <= text.len()
+        && tables::ENTRY * ((state.names as usize) + 1) <= entries.len()
+        && tables::ROW * ((state.rows as usize) + (added as usize)) <= rows.len()
 }
 
 // The entry and the state of a name whose text and rows are kept.
@@ -64,18 +56,18 @@ pub fn enter(
     let e = Entry {
         start: state.text,
         length: bytes,
-        first: first,
-        rows: rows,
+        first,
+        rows,
         distance: distance.0,
     };
     tables::put_entry(entries, k, e);
     Reading {
-        answer: Answer::Kept(k),
+        answer: Ok(Some(k)),
         state: State {
-            count: state.count,
             names: k + 1,
             text: state.text + bytes + 1,
             rows: state.rows + added,
+            ..state
         },
     }
 }

@@ -1,8 +1,7 @@
 -- What may be filled in: an input of good names, and a directory for it; and what filling leaves.
-use Rattle.std.specs.Prelude.{ℕ, ◌*◌, ◌≤◌, ◌≡◌, true, List, leb, length}
+use Rattle.std.specs.Prelude.{ℕ, ◌*◌, ◌≤◌, ◌≡◌, true, List, leb, length, None}
 use Rattle.base.specs.Lent.{Buffer}
 use Rattle.numbering.specs.Types.{Rules}
-use Rattle.inputs.specs.declared.Judged.TheVariants.{Fine}
 use Rattle.inputs.specs.Inputs.{names_of, ended, judged_from}
 use Rattle.laying.specs.Puts.{Put, total_of, directory_of, bytes_of}
 use Rattle.nameputs.specs.NamePuts.{puts_of}
@@ -11,7 +10,7 @@ use Rattle.nameputs.specs.NamePuts.{puts_of}
 pub record Ready (input dir : List ℕ) : Type 0 where
   pub ends : ended input ≡ true
   pub few : length (names_of input) ≤ 65536
-  pub fine : judged_from 0 (names_of input) ≡ Fine
+  pub fine : judged_from 0 (names_of input) ≡ None
   pub table : length dir ≡ 2580
 
 -- with room of six bytes for each byte of such an input there is room for what its names put

@@ -12,9 +12,10 @@ ghost use Rattle.earlier.specs.Fits.{Known};
 ghost use Rattle.outcomes.specs.Outcomes.{finishing, leaves};
 ghost use Rattle.inner.specs.Next.{next_of};
 
-use block::{Refusal, Setting, State};
-use distances::Head;
-use entries::{Answer, Reading};
+use block::{Setting, State};
+use distances::Reference;
+use entries::Reading;
+use refusals::Reason;
 
 // With all names read.
 fn finish(dir: &[u32], cursors: &[u32], state: State) -> Reading
@@ -23,14 +24,11 @@ fn finish(dir: &[u32], cursors: &[u32], state: State) -> Reading
 {
     if block::at_end(dir, cursors) {
         Reading {
-            answer: Answer::Done,
-            state: state,
+            answer: Ok(None),
+            state,
         }
     } else {
-        Reading {
-            answer: Answer::Refused(Refusal::Plain(10)),
-            state: state,
-        }
+        outcomes::refuse_plain(Reason::Unread, state)
     }
 }
 
@@ -55,10 +53,10 @@ pub fn next(
         return finish(dir, cursors, state);
     }
     match heads::head(set, bytes, dir, cursors, k) {
-        Head::Dup(d) => dupdiff::dup(known, cursors, text, entries, rows, state, d),
-        Head::Diff(d) => dupdiff::diff(
+        Ok(Reference::Dup(d)) => dupdiff::dup(known, cursors, text, entries, rows, state, d),
+        Ok(Reference::Diff(d)) => dupdiff::diff(
             set, known, bytes, dir, cursors, text, entries, rows, state, d,
         ),
-        Head::Refused(r) => outcomes::refuse(r, state),
+        Err(r) => outcomes::refuse(r, state),
     }
 }

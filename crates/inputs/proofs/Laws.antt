@@ -1,5 +1,6 @@
 -- What is known of the names of an input: byte by byte, and name by name.
 use Prim.Native.Nat.{ℕ, zero, suc, ◌+◌, ◌-◌, ◌≤◌, ◌<◌}
+use Rattle.std.specs.Prelude.{Some, None}
 use mathlib.Core.Path.{◌≡◌, refl, sym, ap, ◌∙◌, subst}
 use mathlib.Core.Bool.{true, false}
 use mathlib.Core.Logic.{⊎_elim}
@@ -19,7 +20,6 @@ use Rattle.base.proofs.Lists.{part_none, part_last}
 use Rattle.base.proofs.Memory.{length_part}
 use Rattle.classes.specs.Classes.{is_allowed, all_allowed}
 use Rattle.classes.proofs.Laws.{allowed_then}
-use Rattle.inputs.specs.declared.Judged.TheVariants.{Fine, Bad}
 use Rattle.inputs.specs.Inputs.{names_after, NameAt, AllowedTo, ended, good_name, judged_from}
 
 pub names_none : (so : List ℕ) → names_after so [] ≡ []
@@ -94,11 +94,11 @@ not_last s i e h f = ⊎_elim (λ l. l)
 
 -- the first bad name
 
-pub judged_none : (n : ℕ) (names : List (List ℕ)) → names ≡ [] → Fine ≡ judged_from n names
+pub judged_none : (n : ℕ) (names : List (List ℕ)) → names ≡ [] → None ≡ judged_from n names
 unfolding judged_from
 judged_none n names e = rw e
 
-pub judged_bad : (n : ℕ) (names : List (List ℕ)) (s : List ℕ) (ss : List (List ℕ)) → names ≡ s ∷ ss → good_name s ≡ false → Bad n ≡ judged_from n names
+pub judged_bad : (n : ℕ) (names : List (List ℕ)) (s : List ℕ) (ss : List (List ℕ)) → names ≡ s ∷ ss → good_name s ≡ false → Some n ≡ judged_from n names
 unfolding judged_from
 judged_bad n names s ss e f = rw e (left _ _ f refl)
 
@@ -132,11 +132,11 @@ good_holds s e =
     (leb-true _ _ a.0, (leb-true _ _ b.0, b.1))
 
 -- names that are all good, one by one
-pub fine_first : (n : ℕ) (s : List ℕ) (ss : List (List ℕ)) → judged_from n (s ∷ ss) ≡ Fine → (good_name s ≡ true) × (judged_from (n + 1) ss ≡ Fine)
+pub fine_first : (n : ℕ) (s : List ℕ) (ss : List (List ℕ)) → judged_from n (s ∷ ss) ≡ None → (good_name s ≡ true) × (judged_from (n + 1) ss ≡ None)
 unfolding judged_from
 fine_first n s ss e = by_test (good_name s)
     (λ g. (g, sym (pick_true _ _ g) ∙ e))
-    (λ g. absurd (let f : Bad n ≡ Fine = sym (pick_false _ _ g) ∙ e in let z : ◌≡◌ {A = ℕ} 0 1 = cc in omega arith))
+    (λ g. absurd (let f : Some n ≡ None = sym (pick_false _ _ g) ∙ e in let z : ◌≡◌ {A = ℕ} 0 1 = cc in omega arith))
 
 -- bytes that are allowed
 
@@ -155,7 +155,7 @@ allowed_inside (suc k) s at i end e h n a =
     allowed_inside k s at (i + 1) end (omega arith) h (name_more s at i n (omega arith) (allowed_no_ten _ t.0)) t.1
 
 -- a name that begins with a byte that isn't allowed is bad, however it goes on
-bad_begun : (l so : List ℕ) (n : ℕ) → all_allowed so ≡ false → 1 ≤ length (names_after so l) → Bad n ≡ judged_from n (names_after so l)
+bad_begun : (l so : List ℕ) (n : ℕ) → all_allowed so ≡ false → 1 ≤ length (names_after so l) → Some n ≡ judged_from n (names_after so l)
 unfolding names_after
 bad_begun [] so n e h = absurd (omega arith)
 bad_begun (b ∷ l) so n e h = by_test (eqb b 10)
@@ -180,7 +180,7 @@ module _ (s : List ℕ) (at end : ℕ) (a : AllowedTo s at end) where
   pub allowed_name : get_or s end 0 ≡ 10 → NameAt s at end
   allowed_name e = name_ends s at end allowed_to e
 
-  pub judged_barred : (n : ℕ) → ended s ≡ true → (get_or s end 0 ≡ 10 → ⊥) → Bad n ≡ judged_from n (names_after [] (drop at s))
+  pub judged_barred : (n : ℕ) → ended s ≡ true → (get_or s end 0 ≡ 10 → ⊥) → Some n ≡ judged_from n (names_after [] (drop at s))
   judged_barred n e f =
       let so : List ℕ = part s at end ++ get_or s end 0 ∷ [] in
       let q : names_after [] (drop at s) ≡ names_after so (drop (end + 1) s) = sym allowed_to.within ∙ names_next s (part s at end) end a.high f in

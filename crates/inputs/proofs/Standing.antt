@@ -7,23 +7,19 @@ use lib.ListN.{length, drop}
 use Rattle.inputs.specs.Inputs.{names_after, names_of, NameAt}
 use Rattle.inputs.proofs.Laws.{names_out}
 
--- where a walk over the names stands: name n starts at a place; the name before it lies from one place to another
-pub record Standing (input : List ℕ) (n from to start : ℕ) : Type 0 where
-  pub low : from ≤ to
-  pub high : to ≤ length input
+-- where a walk over the names stands: name n starts at a place
+pub record Standing (input : List ℕ) (n start : ℕ) : Type 0 where
   pub within : start ≤ length input
   pub count : n + length (names_after [] (drop start input)) ≡ length (names_of input)
 
-pub stand_first : (input : List ℕ) → Standing input 0 0 0 0
+pub stand_first : (input : List ℕ) → Standing input 0 0
 unfolding names_of
-stand_first input = record { low = omega arith; high = omega arith; within = omega arith; count = omega arith }
+stand_first input = record { within = omega arith; count = omega arith }
 
-module _ (input : List ℕ) (n from to start : ℕ) (k : Standing input n from to start) where
+module _ (input : List ℕ) (n start : ℕ) (k : Standing input n start) where
   module _ (end : ℕ) (e : NameAt input start end) where
-    pub stand_next : Standing input (n + 1) start end (end + 1)
+    pub stand_next : Standing input (n + 1) (end + 1)
     stand_next = record {
-      low = e.low;
-      high = let z : end < length input = e.high in omega arith;
       within = let z : end < length input = e.high in omega arith;
       count = let z : n + length (names_after [] (drop start input)) ≡ length (names_of input) = k.count in omega (arith, ap length e.first);
     }

@@ -1,10 +1,12 @@
 -- The writer's input: names, each ended by byte 10.
-use Rattle.std.specs.Prelude.{ℕ, ◌+◌, ◌-◌, ◌≤◌, ◌<◌, ◌≡◌, Bool, true, false, List, [], ◌∷◌, ◌++◌, leb, eqb, length, get_or, drop}
+use Rattle.std.specs.Prelude.{ℕ, ◌+◌, ◌-◌, ◌≤◌, ◌<◌, ◌≡◌, Bool, true, false, List, [], ◌∷◌, ◌++◌, leb, eqb, length, get_or, drop, Option, Some, None}
 use Rattle.base.specs.Choice.{pick, both, either}
 use Rattle.base.specs.Memory.{part}
 use Rattle.classes.specs.Classes.{is_allowed, all_allowed}
-use Rattle.inputs.specs.declared.Judged.{Judged}
-use Rattle.inputs.specs.declared.Judged.TheVariants.{Fine, Bad}
+
+-- the first name that SAM does not allow, if there is one
+abbrev pub Judged : Type 0
+Judged = Option ℕ
 
 -- the names in the bytes that follow, `so` being the bytes of the first so far
 unfoldable pub names_after : List ℕ → List ℕ → List (List ℕ)
@@ -38,5 +40,5 @@ good_name s = both (leb 1 (length s)) (both (leb (length s) 254) (all_allowed s)
 
 -- the first bad name, the first one here being name n
 unfoldable pub judged_from : ℕ → List (List ℕ) → Judged
-judged_from n [] = Fine
-judged_from n (s ∷ ss) = pick (good_name s) (judged_from (n + 1) ss) (Bad n)
+judged_from n [] = None
+judged_from n (s ∷ ss) = pick (good_name s) (judged_from (n + 1) ss) (Some n)

@@ -11,18 +11,12 @@ use block::Block;
 // is the greatest that a byte can count up to.
 const PART: usize = 224;
 
-// The first name that SAM does not allow, if there is one.
-#[derive(Clone, Copy)]
-pub enum Judged {
-    Fine,
-    Bad(u32),
-}
-
 // Where the name that starts at a place ends.
 pub fn name_end(input: &[u8], at: usize) -> usize
     requires { (at < length input.now) × (ended input.now ≡ true) }
     ensures { NameAt input.now at result }
 {
+    // Not a `for` over the rest: byte 10 ends the loop, so no byte costs a test of the length.
     let mut i = at;
     while input[i] != 10 {
         i += 1;
@@ -46,12 +40,10 @@ fn ends_in(input: &[u8], from: usize, to: usize) -> u8
     ensures { (result ≤ to - from) × (result + length (names_after [] (drop to input.now)) ≡ length (names_after [] (drop from input.now))) }
 {
     let mut n: u8 = 0;
-    let mut i = from;
-    while i < to {
-        if input[i] == 10 {
+    for b in &input[from..to] {
+        if *b == 10 {
             n += 1;
         }
-        i += 1;
     }
     n
 }
@@ -60,6 +52,7 @@ fn ends_in(input: &[u8], from: usize, to: usize) -> u8
 pub fn count(input: &[u8]) -> usize
     ensures { result ≡ length (names_of input.now) }
 {
+    // Not a `for` over chunks: what is counted is told by the place in the whole input, which a chunk doesn't have.
     let mut n: usize = 0;
     let mut i: usize = 0;
     while PART < input.len() - i {
@@ -75,6 +68,7 @@ fn allowed_end(table: &[u8; 256], input: &[u8], at: usize) -> usize
     requires at_in_bounds { (at < length input.now) × (ended input.now ≡ true) }
     ensures { AllowedTo input.now at result }
 {
+    // Not a `for` either, for the same reason.
     let mut i = at;
     while classes::allowed_in(table, input[i]) {
         i += 1;
@@ -82,28 +76,29 @@ fn allowed_end(table: &[u8; 256], input: &[u8], at: usize) -> usize
     i
 }
 
-// Refusal 8 is given for the first bad name. Each byte is looked at once: the first that isn't allowed ends a good name.
-pub fn judge(table: &[u8; 256], input: &[u8]) -> Judged
+// The first name that SAM does not allow, if there is one: refusal 8 is given for it. Each byte is looked at once: the first that isn't allowed ends a good name.
+pub fn judge(table: &[u8; 256], input: &[u8]) -> Option<u32>
     requires table_value { table.now ≡ class_table }
     requires input_value { (ended input.now ≡ true) × (length (names_of input.now) ≤ 65536) }
     ensures { result ≡ judged_from 0 (names_of input.now) }
 {
+    // Not a `for`: where the next name starts is found from where this one ends.
     let mut n: u32 = 0;
     let mut start: usize = 0;
     while start < input.len() {
         let end = allowed_end(table, input, start);
         if input[end] != 10 {
-            return Judged::Bad(n);
+            return Some(n);
         }
         let size = end - start;
         if size < 1 {
-            return Judged::Bad(n);
+            return Some(n);
         }
         if (Block::BYTES as usize) < size {
-            return Judged::Bad(n);
+            return Some(n);
         }
         n += 1;
         start = end + 1;
     }
-    Judged::Fine
+    None
 }

@@ -76,10 +76,8 @@ pub fn rows_fit(used: u32, rows: &[u32], first: u32, many: u32) -> bool
 {
     let end = first + many;
     let mut ok = true;
-    let mut i = first;
-    while i < end {
+    for i in first..end {
         ok = ok & row_fits(used, tables::row_at(rows, i));
-        i += 1;
     }
     ok
 }

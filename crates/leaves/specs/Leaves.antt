@@ -1,13 +1,9 @@
 -- What each leaf answers at the C boundary: its value as one number, and the largest 64-bit number where there is none.
-use Rattle.std.specs.Prelude.{ℕ, ◌+◌, ◌*◌, Bool, List, leb, length, set}
+use Rattle.std.specs.Prelude.{ℕ, ◌+◌, ◌*◌, Bool, List, leb, length, set, Option, Some, None}
+use Rattle.spans.specs.Spans.{Next}
+use Rattle.spans.specs.declared.Bytes.{Bytes}
 use Rattle.base.specs.Choice.{pick, both}
 use Rattle.base.specs.Memory.{written}
-use Rattle.spans.specs.declared.NextByte.{NextByte}
-use Rattle.spans.specs.declared.NextByte.TheVariants as byte
-use Rattle.spans.specs.declared.NextFour.{NextFour}
-use Rattle.spans.specs.declared.NextFour.TheVariants as four
-use Rattle.spans.specs.declared.NextText.{NextText}
-use Rattle.spans.specs.declared.NextText.TheVariants as text
 
 abbrev pub nothing : ℕ
 nothing = 18446744073709551615
@@ -25,14 +21,14 @@ unfoldable pub placed : Bool → List ℕ → ℕ → List ℕ → Left
 placed may s at buf =
     pick (both may (leb (at + length s) (length buf))) (leaves (length s) (written buf at s)) (leaves nothing buf)
 
-unfoldable pub byte_number : NextByte → ℕ
-byte_number (byte.Value b c) = b + 4294967296 * c.0
-byte_number byte.Short = nothing
+unfoldable pub byte_number : Next → ℕ
+byte_number (Some (b, c)) = b + 4294967296 * c.0
+byte_number None = nothing
 
-unfoldable pub four_left : List ℕ → NextFour → Left
-four_left next (four.Value n c) = leaves n (set next 0 c.0)
-four_left next four.Short = leaves nothing next
+unfoldable pub four_left : List ℕ → Next → Left
+four_left next (Some (n, c)) = leaves n (set next 0 c.0)
+four_left next None = leaves nothing next
 
-unfoldable pub text_number : NextText → ℕ
-text_number (text.Bytes a z c) = z.0
-text_number text.Unended = nothing
+unfoldable pub text_number : Option Bytes → ℕ
+text_number (Some t) = t.end.0
+text_number None = nothing

@@ -11,18 +11,14 @@ ghost use Rattle.block.specs.Block.{sound, all_inside};
 ghost use Rattle.listed.specs.Listing.{listed_of};
 ghost use Rattle.leaves.specs.Leaves.{nothing, leaves, placed, byte_number, four_left, text_number};
 
-use block::Verdict;
-use spans::{Cursor, NextByte, NextFour, NextText};
+use spans::Cursor;
 
 const NOTHING: u64 = 18446744073709551615;
 
 fn has_room(len: usize, at: usize, n: usize) -> bool
     ensures { result ≡ leb (at + n) len }
 {
-    if len < at {
-        return false;
-    }
-    if len - at < n { false } else { true }
+    at <= len && n <= len - at
 }
 
 #[unsafe(no_mangle)]
@@ -58,7 +54,7 @@ pub extern "C" fn leaf_print_padded(n: u32, width: u32, buf: &mut [u8], at: usiz
 pub extern "C" fn leaf_fits(n: u32, width: u32) -> u32
     ensures { result ≡ pick (fits_width n width) 1 0 }
 {
-    if digits::fits_width(n, width) { 1 } else { 0 }
+    digits::fits_width(n, width) as u32
 }
 
 #[unsafe(no_mangle)]
@@ -76,8 +72,8 @@ pub extern "C" fn leaf_byte(bytes: &[u8], at: u32, end: u32) -> u64
         return NOTHING;
     }
     match Cursor(at).next_byte(bytes, Cursor(end)) {
-        NextByte::Value(b, c) => (b as u64) + 4294967296 * (c.0 as u64),
-        NextByte::Short => NOTHING,
+        Some((b, c)) => (b as u64) + 4294967296 * (c.0 as u64),
+        None => NOTHING,
     }
 }
 
@@ -89,11 +85,11 @@ pub extern "C" fn leaf_four(bytes: &[u8], at: u32, end: u32, next: &mut [u32; 1]
         return NOTHING;
     }
     match Cursor(at).next_four(bytes, Cursor(end)) {
-        NextFour::Value(n, c) => {
+        Some((n, c)) => {
             next[0] = c.0;
             n as u64
         }
-        NextFour::Short => NOTHING,
+        None => NOTHING,
     }
 }
 
@@ -105,12 +101,8 @@ pub extern "C" fn leaf_text(bytes: &[u8], at: u32, end: u32) -> u64
         return NOTHING;
     }
     match Cursor(at).next_text(bytes, Cursor(end)) {
-        NextText::Bytes {
-            start: _,
-            end: z,
-            next: _,
-        } => z.0 as u64,
-        NextText::Unended => NOTHING,
+        Some(text) => text.end.0 as u64,
+        None => NOTHING,
     }
 }
 
@@ -119,9 +111,8 @@ pub extern "C" fn leaf_judge(bytes: &[u8], directory: &[u32], cursors: &[u32]) -
     ensures { result ≡ pick (sound (length bytes.now) directory.now cursors.now) (pick (all_inside directory.now cursors.now) 0 13) 1 }
 {
     match block::judge(bytes, directory, cursors) {
-        Verdict::Unsound => 1,
-        Verdict::Outside => 13,
-        Verdict::Inside => 0,
+        Ok(()) => 0,
+        Err(r) => r.number(),
     }
 }
 

@@ -11,8 +11,8 @@ use Rattle.base.proofs.Choice.{pick_true, pick_false, by_test}
 use Rattle.base.proofs.Numbers.{lt_or_ge}
 use Rattle.digits.specs.Digits.{printed}
 use Rattle.digits.proofs.Laws.{printed_short}
-use Rattle.references.specs.declared.Reference.{Reference}
-use Rattle.references.specs.declared.Reference.TheVariants.{Dup, Diff}
+use Rattle.distances.specs.declared.Reference.{Reference}
+use Rattle.distances.specs.declared.Reference.TheVariants.{Dup, Diff}
 use Rattle.splitting.specs.Split.{cut_at}
 use Rattle.choices.specs.Choices.{choice_at, choices_from, choices_of}
 use Rattle.references.specs.References.{reference_of, leans_on}

@@ -9,7 +9,7 @@ use Rattle.base.proofs.Choice.{pick_true, pick_false}
 use Rattle.digits.specs.Digits.{printed}
 use Rattle.spans.specs.declared.Distance.{Distance}
 use Rattle.choices.specs.declared.Choice.TheVariants.{End}
-use Rattle.references.specs.declared.Reference.TheVariants.{Dup, Diff}
+use Rattle.distances.specs.declared.Reference.TheVariants.{Dup, Diff}
 use Rattle.splitting.specs.Split.{cut_at}
 use Rattle.choices.specs.Choices.{choice_at, choices_from, choices_of}
 use Rattle.references.specs.References.{reference_of, leans_on}

@@ -5,7 +5,6 @@ use mathlib.Core.List.{List, [], ◌++◌}
 use native.Mathlib.Omega.{arith}
 use lib.ListN.{length, drop}
 use Rattle.base.specs.Memory.{part}
-use Rattle.base.proofs.Lists.{part_none}
 use Rattle.choices.specs.declared.Choice.{Choice}
 use Rattle.choices.specs.declared.Choice.TheVariants.{End}
 use Rattle.splitting.specs.Split.{cut_at}
@@ -72,49 +71,45 @@ module _ (r s : List ℕ) (w₀ w : Page) (p a b : ℕ) (k : Walking r s w₀ w 
     walk_end d = d ∙ ap (λ (l : List ℕ). said l w) (sym last) ∙ k.rest
 
 -- the names from where a walk over them stands, and what they say
-pub record Naming (input : List ℕ) (w₀ w : Page) (n from to start : ℕ) : Type 0 where
-  pub stands : Standing input n from to start
-  pub room : HasRoom (lines_from n (part input from to) (names_after [] (drop start input))) w
-  pub rest : said (lines_from n (part input from to) (names_after [] (drop start input))) w ≡ said (lines_of (names_of input)) w₀
+pub record Naming (input : List ℕ) (w₀ w : Page) (n : ℕ) (before : List ℕ) (start : ℕ) : Type 0 where
+  pub stands : Standing input n start
+  pub room : HasRoom (lines_from n before (names_after [] (drop start input))) w
+  pub rest : said (lines_from n before (names_after [] (drop start input))) w ≡ said (lines_of (names_of input)) w₀
 
-pub names_start : (input : List ℕ) (w : Page) {n : ℕ} → n ≡ 0 → HasRoom (lines_of (names_of input)) w → Naming input w w n 0 0 0
+pub names_start : (input : List ℕ) (w : Page) {n : ℕ} → n ≡ 0 → HasRoom (lines_of (names_of input)) w → Naming input w w n [] 0
 unfolding lines_of names_of
 names_start input w {n} e q =
-    let first : Naming input w w 0 0 0 0 = record {
-      stands = stand_first input;
-      room = subst (λ (l : List ℕ). HasRoom (lines_from 0 l (names_after [] input)) w) (sym (part_none input 0 0 (omega arith))) q;
-      rest = ap (λ (l : List ℕ). said (lines_from 0 l (names_after [] input)) w) (part_none input 0 0 (omega arith));
-    } in
-    subst (λ (m : ℕ). Naming input w w m 0 0 0) (sym e) first
+    let first : Naming input w w 0 [] 0 = record { stands = stand_first input; room = q; rest = refl } in
+    subst (λ (m : ℕ). Naming input w w m [] 0) (sym e) first
 
-module _ (input : List ℕ) (w₀ w : Page) (n from to start : ℕ) (k : Naming input w₀ w n from to start) where
+module _ (input : List ℕ) (w₀ w : Page) (n : ℕ) (before : List ℕ) (start : ℕ) (k : Naming input w₀ w n before start) where
   module _ (end : ℕ) (e : NameAt input start end) where
     after : List ℕ
     after = lines_from (n + 1) (part input start end) (names_after [] (drop (end + 1) input))
 
     this : List ℕ
-    this = line_of n (part input from to) (part input start end)
+    this = line_of n before (part input start end)
 
-    next : lines_from n (part input from to) (names_after [] (drop start input)) ≡ this ++ after
+    next : lines_from n before (names_after [] (drop start input)) ≡ this ++ after
     unfolding this after
-    next = lines_more n (part input from to) (names_after [] (drop start input)) (part input start end) (names_after [] (drop (end + 1) input)) e.first
+    next = lines_more n before (names_after [] (drop start input)) (part input start end) (names_after [] (drop (end + 1) input)) e.first
 
     both_rooms : HasRoom (this ++ after) w
     both_rooms = subst (λ (l : List ℕ). HasRoom l w) next k.room
 
-    pub names_room : HasRoom (line_of n (part input from to) (part input start end)) w
+    pub names_room : HasRoom (line_of n before (part input start end)) w
     unfolding this
     names_room = first_room this after w both_rooms
 
-    pub names_more : {v : Page} → v ≡ said (line_of n (part input from to) (part input start end)) w → Naming input w₀ v (n + 1) start end (end + 1)
+    pub names_more : {v : Page} → v ≡ said (line_of n before (part input start end)) w → Naming input w₀ v (n + 1) (part input start end) (end + 1)
     unfolding this after
     names_more {v} d = record {
-      stands = stand_next input n from to start k.stands end e;
+      stands = stand_next input n start k.stands end e;
       room = next_room this after w both_rooms d;
       rest = said_next this after w both_rooms d refl ∙ ap (λ (l : List ℕ). said l w) (sym next) ∙ k.rest;
     }
 
   pub names_end : length input ≤ start → w ≡ said (lines_of (names_of input)) w₀
   names_end h =
-      let none : lines_from n (part input from to) (names_after [] (drop start input)) ≡ [] = lines_none n (part input from to) _ (none_left input n from to start k.stands h) in
+      let none : lines_from n before (names_after [] (drop start input)) ≡ [] = lines_none n before _ (none_left input n start k.stands h) in
       sym (said_none w) ∙ ap (λ (l : List ℕ). said l w) (sym none) ∙ k.rest

@@ -2,8 +2,8 @@
 use Rattle.std.specs.Prelude.{ℕ, ◌+◌, List, [], ◌∷◌, ◌++◌}
 use Rattle.digits.specs.Digits.{printed}
 use Rattle.choices.specs.declared.Choice.{Choice}
-use Rattle.references.specs.declared.Reference.{Reference}
-use Rattle.references.specs.declared.Reference.TheVariants.{Dup, Diff}
+use Rattle.distances.specs.declared.Reference.{Reference}
+use Rattle.distances.specs.declared.Reference.TheVariants.{Dup, Diff}
 use Rattle.choices.specs.Choices.{choices_of}
 use Rattle.references.specs.References.{reference_of, leans_on}
 use Rattle.texts.specs.Words.{dup_word, diff_word, newline}

@@ -11,7 +11,7 @@ ghost use Rattle.pages.specs.Page.{page, said, HasRoom};
 ghost use Rattle.lines.specs.Lines.{tokens_text, name_text, line_of, lines_of};
 
 use choices::Choice;
-use references::Reference;
+use distances::Reference;
 use spans::{Distance, Position};
 
 // The tokens of a name and END; the earlier name is split again in step.
@@ -24,6 +24,7 @@ fn put_tokens(out: &mut [u8], at: usize, table: &[u8; 256], before: &[u8], name:
     let mut p: u32 = 1;
     let mut a: usize = 0;
     let mut b: usize = 0;
+    // Not a `for`: where the next tokens of the two names start is found from where these end.
     while a < name.len() {
         let here = Position(p);
         let e = splitting::cut_at(table, name, here, a);
@@ -96,14 +97,14 @@ pub fn put_lines(out: &mut [u8], table: &[u8; 256], input: &[u8]) -> usize
 {
     let mut at: usize = 0;
     let mut n: u32 = 0;
-    let mut from: usize = 0;
-    let mut to: usize = 0;
+    let mut before: &[u8] = &[];
     let mut start: usize = 0;
+    // Not a `for`: where the next name starts is found from where this one ends.
     while start < input.len() {
         let end = inputs::name_end(input, start);
-        at = put_line(out, at, table, n, &input[from..to], &input[start..end]);
-        from = start;
-        to = end;
+        let name = &input[start..end];
+        at = put_line(out, at, table, n, before, name);
+        before = name;
         start = end + 1;
         n += 1;
     }

@@ -1,5 +1,7 @@
 -- From the writer's judgement to what is printed.
 use Prim.Native.Nat.{ℕ, ◌≤◌, ◌<◌}
+use Rattle.std.specs.Prelude.{Some, None, Ok, Err}
+use Rattle.refusals.specs.declared.Reason.TheVariants as reason
 use mathlib.Core.Path.{◌≡◌, refl, sym, ap, ◌∙◌}
 use mathlib.Core.Bool.{true, false}
 use mathlib.Core.List.{List, [], ◌∷◌, ◌++◌}
@@ -8,16 +10,12 @@ use borrow.Author.Tests.{lt-ltb, le-ltb, le-leb, eq-eqb}
 use lib.Dec.{eqb}
 use lib.ListN.{length}
 use Rattle.base.proofs.Choice.{pick_true, pick_false, by_test}
-use Rattle.block.specs.declared.Refusal.TheVariants.{Plain, At}
+use Rattle.refusals.specs.declared.Refusal.TheVariants.{Plain, At}
 use Rattle.numbering.specs.Types.{draft_plain, Rules, rules_of}
 use Rattle.laying.specs.Puts.{total_of}
-use Rattle.inputs.specs.declared.Judged.{Judged}
-use Rattle.inputs.specs.declared.Judged.TheVariants.{Fine, Bad}
-use Rattle.writing.specs.declared.WriteAnswer.{WriteAnswer}
-use Rattle.writing.specs.declared.WriteAnswer.TheVariants.{Written, Refused}
-use Rattle.inputs.specs.Inputs.{names_after, names_of, ended, judged_from}
+use Rattle.inputs.specs.Inputs.{Judged, names_after, names_of, ended, judged_from}
 use Rattle.nameputs.specs.NamePuts.{puts_of}
-use Rattle.writing.specs.Writes.{Writing, countable, laid_of, judged_of, write_of}
+use Rattle.writing.specs.Writes.{WriteAnswer, Writing, countable, laid_of, judged_of, write_of}
 use Rattle.filling.specs.Ready.{Ready}
 use Rattle.writing.proofs.Laid.{countable_of, unended}
 use Rattle.pages.specs.Page.{Page, said, HasRoom}
@@ -42,7 +40,7 @@ unfolding names_of
 few_names input h = omega (arith, names_few [] input)
 
 module _ (input : List ℕ) where
-  pub listed_long : 4096 < length input → listed_of input ≡ refusal_text (Plain 9)
+  pub listed_long : 4096 < length input → listed_of input ≡ refusal_text (Plain reason.NoRoom)
   unfolding listed_of
   listed_long h = pick_true _ _ (lt-ltb _ _ h)
 
@@ -51,25 +49,25 @@ module _ (input : List ℕ) where
     unfolding listed_of listing_of
     listed e = pick_false _ _ (le-ltb _ _ h) ∙ ap (answer_text (names_of input)) e
 
-    pub listed_unended : ended input ≡ false → listed_of input ≡ refusal_text (Plain 12)
+    pub listed_unended : ended input ≡ false → listed_of input ≡ refusal_text (Plain reason.BadCount)
     unfolding answer_text answer_of
-    listed_unended e = listed {a = Refused (Plain 12)} (pick_false _ _ (unended input e))
+    listed_unended e = listed {a = Err (Plain reason.BadCount)} (pick_false _ _ (unended input e))
 
     module _ (e : ended input ≡ true) where
       answer : answer_of (rules_of draft_plain) input ≡ judged_answer (rules_of draft_plain) (judged_from 0 (names_of input)) (names_of input)
       unfolding answer_of
       answer = pick_true _ _ (countable_of input e (few_names input h))
 
-      pub listed_bad : {n : ℕ} → judged_from 0 (names_of input) ≡ Bad n → listed_of input ≡ refusal_text (At 8 n)
+      pub listed_bad : {n : ℕ} → judged_from 0 (names_of input) ≡ Some n → listed_of input ≡ refusal_text (At reason.BadName n)
       unfolding answer_text judged_answer
-      listed_bad {n} f = listed {a = Refused (At 8 n)} (answer ∙ ap (λ (j : Judged). judged_answer (rules_of draft_plain) j (names_of input)) f)
+      listed_bad {n} f = listed {a = Err (At reason.BadName n)} (answer ∙ ap (λ (j : Judged). judged_answer (rules_of draft_plain) j (names_of input)) f)
 
-      pub good : judged_from 0 (names_of input) ≡ Fine → Good input
+      pub good : judged_from 0 (names_of input) ≡ None → Good input
       good f = record { ends = e; few = few_names input h; fine = f }
 
   pub listed_good : length input ≤ 4096 → Good input → listed_of input ≡ lines_of (names_of input) ++ totals_text (length (names_of input)) (total_of (puts_of (rules_of draft_plain) (names_of input)))
   unfolding answer_text judged_answer
-  listed_good h g = listed h {a = Written (length (names_of input)) (total_of (puts_of (rules_of draft_plain) (names_of input)))} (answer h g.ends ∙ ap (λ (j : Judged). judged_answer (rules_of draft_plain) j (names_of input)) g.fine)
+  listed_good h g = listed h {a = Ok (record { names = length (names_of input); bytes = total_of (puts_of (rules_of draft_plain) (names_of input)) })} (answer h g.ends ∙ ap (λ (j : Judged). judged_answer (rules_of draft_plain) j (names_of input)) g.fine)
 
 -- the lines, then the totals
 module _ (input : List ℕ) (h : length input ≤ 4096) (g : Good input) (w : Page) (room : HasRoom (listed_of input) w) where
@@ -102,8 +100,8 @@ module _ (input : List ℕ) (h : length input ≤ 4096) (g : Good input) (w : Pa
 module _ (rules : Rules) (names : List (List ℕ)) (dir bytes : List ℕ) (h : total_of (puts_of rules names) ≤ length bytes) where
   judged_answer_law : (j : Judged) → (judged_of rules j names dir bytes).answer ≡ judged_answer rules j names
   unfolding judged_of laid_of judged_answer
-  judged_answer_law Fine = ap (λ (x : Writing). x.answer) (pick_true _ _ (le-leb _ _ h))
-  judged_answer_law (Bad n) = refl
+  judged_answer_law None = ap (λ (x : Writing). x.answer) (pick_true _ _ (le-leb _ _ h))
+  judged_answer_law (Some n) = refl
 
 pub answer_written : (rules : Rules) (input dir bytes : List ℕ) → length dir ≡ 2580 → total_of (puts_of rules (names_of input)) ≤ length bytes → (write_of rules input dir bytes).answer ≡ answer_of rules input
 unfolding write_of answer_of

@@ -1,31 +1,28 @@
 -- What the program prints for an input.
-use Rattle.std.specs.Prelude.{ℕ, ◌≤◌, ◌≡◌, true, List, ◌++◌, ltb, length}
+use Rattle.std.specs.Prelude.{ℕ, ◌≤◌, ◌≡◌, true, List, ◌++◌, ltb, length, Some, None, Ok, Err}
+use Rattle.refusals.specs.declared.Reason.TheVariants as reason
 use Rattle.base.specs.Choice.{pick}
-use Rattle.block.specs.declared.Refusal.TheVariants.{Plain, At}
+use Rattle.refusals.specs.declared.Refusal.TheVariants.{Plain, At}
 use Rattle.numbering.specs.Types.{draft_plain, Rules, rules_of}
 use Rattle.laying.specs.Puts.{total_of}
-use Rattle.inputs.specs.declared.Judged.{Judged}
-use Rattle.inputs.specs.declared.Judged.TheVariants.{Fine, Bad}
-use Rattle.writing.specs.declared.WriteAnswer.{WriteAnswer}
-use Rattle.writing.specs.declared.WriteAnswer.TheVariants.{Written, Refused}
-use Rattle.inputs.specs.Inputs.{names_of, ended, judged_from}
+use Rattle.inputs.specs.Inputs.{Judged, names_of, ended, judged_from}
 use Rattle.nameputs.specs.NamePuts.{puts_of}
-use Rattle.writing.specs.Writes.{countable, write_of}
+use Rattle.writing.specs.Writes.{WriteAnswer, countable, write_of}
 use Rattle.lines.specs.Lines.{lines_of}
 use Rattle.closing.specs.Closing.{refusal_text, totals_text}
 
 -- what is said of names to which the writer gave an answer
 unfoldable pub answer_text : List (List ℕ) → WriteAnswer → List ℕ
-answer_text names (Written n b) = lines_of names ++ totals_text n b
-answer_text names (Refused r) = refusal_text r
+answer_text names (Ok w) = lines_of names ++ totals_text w.names w.bytes
+answer_text names (Err r) = refusal_text r
 
 -- the writer's answer where there is room for the bytes
 unfoldable pub judged_answer : Rules → Judged → List (List ℕ) → WriteAnswer
-judged_answer rules Fine names = Written (length names) (total_of (puts_of rules names))
-judged_answer rules (Bad n) names = Refused (At 8 n)
+judged_answer rules None names = Ok (record { names = length names; bytes = total_of (puts_of rules names) })
+judged_answer rules (Some n) names = Err (At reason.BadName n)
 
 unfoldable pub answer_of : Rules → List ℕ → WriteAnswer
-answer_of rules input = pick (countable input) (judged_answer rules (judged_from 0 (names_of input)) (names_of input)) (Refused (Plain 12))
+answer_of rules input = pick (countable input) (judged_answer rules (judged_from 0 (names_of input)) (names_of input)) (Err (Plain reason.BadCount))
 
 -- the listing of an input
 unfoldable pub listing_of : Rules → List ℕ → List ℕ
@@ -33,13 +30,13 @@ listing_of rules input = answer_text (names_of input) (answer_of rules input)
 
 -- "at most 4,096 bytes (more prints "refused 9")"; it lists what the draft's plain setting writes
 unfoldable pub listed_of : List ℕ → List ℕ
-listed_of input = pick (ltb 4096 (length input)) (refusal_text (Plain 9)) (listing_of (rules_of draft_plain) input)
+listed_of input = pick (ltb 4096 (length input)) (refusal_text (Plain reason.NoRoom)) (listing_of (rules_of draft_plain) input)
 
 -- an input of good names
 pub record Good (input : List ℕ) : Type 0 where
   pub ends : ended input ≡ true
   pub few : length (names_of input) ≤ 65536
-  pub fine : judged_from 0 (names_of input) ≡ Fine
+  pub fine : judged_from 0 (names_of input) ≡ None
 
 -- "Its own room always suffices"
 abbrev pub ListedShort : Type 0

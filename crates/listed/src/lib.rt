@@ -11,9 +11,9 @@ ghost use Rattle.nameputs.specs.NamePuts.{puts_of};
 ghost use Rattle.pages.specs.Page.{page, said, HasRoom};
 ghost use Rattle.listed.specs.Listing.{listed_of, Good};
 
-use block::{Block, Kind, Mode, Refusal, Setting};
-use inputs::Judged;
+use block::{Block, Kind, Mode, Setting};
 use laying::Pass;
+use refusals::{Reason, Refusal};
 
 // Most bytes of an input.
 const MOST: usize = 4096;
@@ -51,15 +51,15 @@ fn put_listed(out: &mut [u8], input: &[u8]) -> usize
     ensures { page out.new result ≡ said (listed_of input.now) (page out.old 0) }
 {
     if MOST < input.len() {
-        return closing::put_refusal(out, 0, Refusal::Plain(9));
+        return closing::put_refusal(out, 0, Refusal::Plain(Reason::NoRoom));
     }
     if !inputs::all_ended(input) {
-        return closing::put_refusal(out, 0, Refusal::Plain(12));
+        return closing::put_refusal(out, 0, Refusal::Plain(Reason::BadCount));
     }
     let table = classes::table();
     match inputs::judge(&table, input) {
-        Judged::Bad(n) => closing::put_refusal(out, 0, Refusal::At(8, n)),
-        Judged::Fine => put_listing(out, &table, input),
+        Some(n) => closing::put_refusal(out, 0, Refusal::At(Reason::BadName, n)),
+        None => put_listing(out, &table, input),
     }
 }
 

@@ -1,34 +1,20 @@
--- Laws of a symbol's place, of halving and of the move, as the loops and the calls want them.
+-- Laws of halving and of the move, as the loop and the calls want them.
 use Prim.Native.Nat.{ℕ, zero, suc, ◌+◌, ◌-◌, ◌/◌, ◌≤◌, ◌<◌}
 use mathlib.Core.Path.{◌≡◌, refl, sym, ap, ap₂, ◌∙◌}
-use mathlib.Core.Logic.{◌≢◌}
 use mathlib.Core.List.{List, [], ◌∷◌}
 use native.Mathlib.Omega.{arith}
 use native.Mathlib.Numerals.{add-one}
 use lib.ListN.{length, get_or, set, drop, drop_of_length-le}
 use lib.Seq.{paste, drop-cons}
 use lib.Dec.{ltb}
-use borrow.Author.Tests.{eq-eqb, ne_eqb, lt-ltb, le-ltb}
-use Rattle.base.specs.Choice.{pick, both}
+use borrow.Author.Tests.{lt-ltb, le-ltb}
+use Rattle.std.specs.List.{swap}
+use Rattle.std.proofs.lemmas.List.Edits.{swap_is}
+use Rattle.base.specs.Choice.{both}
 use Rattle.base.proofs.Choice.{took, left, both_of, both_left, both_right}
 use Rattle.model.specs.declared.Model.{Model}
 use Rattle.base.proofs.Fills.{fill_read, fill_turn}
-use Rattle.model.specs.Model.{model, place_of, sum_of, sum, halves, neighbour, swapped, exceeds, raised}
-
--- ---- the place of a symbol, the rest from here on
-
-module _ (l : List ℕ) (s i : ℕ) where
-  pub place_found : i < length l → get_or l i 0 ≡ s → i ≡ i + place_of (drop i l) s
-  unfolding place_of pick
-  place_found h e = rw (drop-cons l i 0 h, eq-eqb (get_or l i 0) s e) (omega arith)
-
-  pub place_turn : i < length l → get_or l i 0 ≢ s → i + 1 + place_of (drop (i + 1) l) s ≡ i + place_of (drop i l) s
-  unfolding place_of pick
-  place_turn h e = rw (add-one i, drop-cons l i 0 h, ne_eqb (get_or l i 0) s e) (omega arith)
-
-  pub place_none : length l ≤ i → i ≡ i + place_of (drop i l) s
-  unfolding place_of
-  place_none h = rw (drop_of_length-le l h) (omega arith)
+use Rattle.model.specs.Model.{model, most, sum_of, sum, halves, halved, settled, neighbour, swapped, exceeds, raised}
 
 -- ---- halving
 
@@ -70,6 +56,16 @@ module _ (f₀ f : List ℕ) (i t : ℕ) (e : f ≡ paste f₀ 0 (halves f₀) i
   pub halve_sum : t + sum (halves (drop i f₀)) ≡ sum (halves f₀) → t + (get_or f i 0 - get_or f i 0 / 2) + sum (halves (drop (i + 1) f₀)) ≡ sum (halves f₀)
   halve_sum q = ap (λ (v : ℕ). t + (v - v / 2) + sum (halves (drop (i + 1) f₀))) halve_read ∙ halves_turn f₀ i t h ∙ q
 
+-- every frequency halved, or none
+module _ (m : Model) where
+  pub settled_halved : most < m.total → {f : List ℕ} {t : ℕ} → f ≡ halves m.frequencies → t ≡ sum (halves m.frequencies) → model m.symbols f t ≡ settled m
+  unfolding settled halved
+  settled_halved h d e = took (halved m) m (lt-ltb most m.total h) (ap₂ (model m.symbols) d e)
+
+  pub settled_same : m.total ≤ most → m ≡ settled m
+  unfolding settled
+  settled_same h = left (halved m) m (le-ltb most m.total h) refl
+
 -- ---- the move
 
 neighbour_is : (x : ℕ) → neighbour x ≡ x - 1
@@ -97,9 +93,12 @@ module _ (s f : List ℕ) (t x : ℕ) where
   unfolding raised
   stays_below p h = left up _ (exceeds_is f x ∙ both_right (lt-ltb 0 x p) (le-ltb (get_or f (x - 1) 0) (get_or f x 0) h)) refl
 
-  pub moves_up : 0 < x → get_or f (x - 1) 0 < get_or f x 0
-      → model (set (set s x (get_or s (x - 1) 0)) (x - 1) (get_or s x 0)) (set (set f x (get_or f (x - 1) 0)) (x - 1) (get_or f x 0)) t ≡ raised (model s f t) x
+  -- both lists, each with the two places exchanged
+  pub moves_up : 0 < x → x < length s → x < length f → get_or f (x - 1) 0 < get_or f x 0
+      → {a b : List ℕ} → a ≡ swap s x (x - 1) → b ≡ swap f x (x - 1) → model a b t ≡ raised (model s f t) x
   unfolding raised
-  moves_up p h =
-      ap₂ (λ (a b : List ℕ). model a b t) (sym (swapped_is s x)) (sym (swapped_is f x))
+  moves_up p i j h d e =
+      ap₂ (λ (y z : List ℕ). model y z t)
+      (d ∙ sym (swap_is s x (x - 1) 0 i (omega arith)) ∙ sym (swapped_is s x))
+      (e ∙ sym (swap_is f x (x - 1) 0 j (omega arith)) ∙ sym (swapped_is f x))
       ∙ took up _ (exceeds_is f x ∙ both_of (lt-ltb 0 x p) (lt-ltb (get_or f (x - 1) 0) (get_or f x 0) h)) refl

@@ -27,27 +27,21 @@ pub fn start(symbols: &mut [u32], frequencies: &mut [u32])
     requires { (length symbols.old ≤ places) × (length frequencies.old ≡ length symbols.old) }
     ensures { model symbols.new frequencies.new (length symbols.old) ≡ started (length symbols.old) }
 {
-    let mut i: usize = 0;
-    while i < symbols.len() {
-        symbols[i] = i as u32;
-        frequencies[i] = 1;
-        i += 1;
+    for (at, symbol) in symbols.iter_mut().enumerate() {
+        *symbol = at as u32;
     }
+    frequencies.fill(1);
 }
 
-// As many as there are places, if the symbol stands at none.
+// As many as there are places, if the symbol stands at none: not an Option, since the definition gives every symbol a place.
 pub fn place_of(symbols: &[u32], symbol: u8) -> usize
     ensures { result ≡ place_of symbols.now symbol }
 {
-    let sought = symbol as u32;
-    let mut i: usize = 0;
-    while i < symbols.len() {
-        if symbols[i] == sought {
-            return i;
-        }
-        i += 1;
-    }
-    i
+    let sought = u32::from(symbol);
+    symbols
+        .iter()
+        .position(|s| *s == sought)
+        .unwrap_or(symbols.len())
 }
 
 // Each less its half rounded down. The answer is the sum of what they become.
@@ -55,15 +49,10 @@ fn halve(frequencies: &mut [u32]) -> u32
     requires { sum frequencies.old < 2 ^ 32 }
     ensures { (frequencies.new ≡ halves frequencies.old) × (result ≡ sum (halves frequencies.old)) }
 {
-    let mut total: u32 = 0;
-    let mut i: usize = 0;
-    while i < frequencies.len() {
-        let all = frequencies[i];
-        let half = all / 2;
-        let less = all - half;
-        frequencies[i] = less;
-        total = total + less;
-        i += 1;
+    let mut total = 0;
+    for frequency in frequencies.iter_mut() {
+        *frequency -= *frequency / 2;
+        total += *frequency;
     }
     total
 }
@@ -77,36 +66,22 @@ fn move_up(symbols: &mut [u32], frequencies: &mut [u32], at: usize)
         return;
     }
     let up = at - 1;
-    let own = frequencies[at];
-    let above = frequencies[up];
-    if own <= above {
+    if frequencies[at] <= frequencies[up] {
         return;
     }
-    frequencies[at] = above;
-    frequencies[up] = own;
-    let symbol = symbols[at];
-    symbols[at] = symbols[up];
-    symbols[up] = symbol;
+    symbols.swap(at, up);
+    frequencies.swap(at, up);
 }
 
-// Halved if the total is above the most that it may be. The answer is the total afterwards.
-fn settle(frequencies: &mut [u32], total: u32) -> u32
-    requires { total ≡ sum frequencies.old }
-    ensures { (s : List ℕ) → model s frequencies.new result ≡ settled (model s frequencies.old total) }
+// One symbol seen, at its place: it grows, all are halved if the total is above the most that it may be, it moves up.
+pub fn step(symbols: &mut [u32], frequencies: &mut [u32], total: &mut u32, at: usize)
+    requires { Sound (length symbols.old) (model symbols.old frequencies.old total.old) × (at < length symbols.old) }
+    ensures { model symbols.new frequencies.new total.new ≡ step_at (model symbols.old frequencies.old total.old) at }
 {
-    if total <= Model::MOST {
-        return total;
+    frequencies[at] += Model::GROWTH;
+    *total += Model::GROWTH;
+    if *total > Model::MOST {
+        *total = halve(frequencies);
     }
-    halve(frequencies)
-}
-
-// One symbol seen, at its place. The answer is the total afterwards.
-pub fn step(symbols: &mut [u32], frequencies: &mut [u32], total: u32, at: usize) -> u32
-    requires { Sound (length symbols.old) (model symbols.old frequencies.old total) × (at < length symbols.old) }
-    ensures { model symbols.new frequencies.new result ≡ step_at (model symbols.old frequencies.old total) at }
-{
-    frequencies[at] = frequencies[at] + Model::GROWTH;
-    let settled = settle(frequencies, total + Model::GROWTH);
     move_up(symbols, frequencies, at);
-    settled
 }

@@ -4,8 +4,6 @@
 ghost use Rattle.std.specs.Prelude.{◌≡◌};
 ghost use Rattle.modelcalls.specs.Calls.{replays_left, replay_call_lent};
 
-use replays::Replayed;
-
 pub fn replay(
     size: u32,
     trace: &[u8],
@@ -16,7 +14,7 @@ pub fn replay(
     ensures { replays_left result symbols.new frequencies.new total.new ≡ replay_call_lent size trace.now symbols.old frequencies.old total.old }
 {
     match replays::replay(size, trace, symbols, frequencies, total) {
-        Replayed::Whole => codes::pack(0, 0),
-        Replayed::Refused(r) => codes::refused(r),
+        Ok(()) => codes::pack(0, 0),
+        Err(refusal) => codes::refused(refusal),
     }
 }

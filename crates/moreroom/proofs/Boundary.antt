@@ -1,20 +1,21 @@
 -- C-18 at the C boundary.
 use Prim.Native.Nat.{ℕ, zero, suc}
+use Rattle.entries.specs.Entries.{Answer}
+use Rattle.std.specs.Prelude.{Some, None, Ok, Err}
+use Rattle.refusals.specs.declared.Reason.TheVariants as reason
 use mathlib.Core.Path.{◌≡◌, refl, sym, ap, ◌∙◌}
 use mathlib.Core.List.{List, [], ◌∷◌}
 use native.Mathlib.Omega.{arith}
 use native.Mathlib.Numerals.{add-one}
-use lib.ListN.{length, replicate}
+use lib.ListN.{replicate}
 use Rattle.block.specs.declared.State.{State}
-use Rattle.block.specs.declared.Refusal.{Refusal}
-use Rattle.block.specs.declared.Refusal.TheVariants as refusal
+use Rattle.refusals.specs.declared.Refusal.{Refusal}
+use Rattle.refusals.specs.declared.Refusal.TheVariants as refusal
 use Rattle.block.specs.Block.{starts, state}
 use Rattle.tables.specs.Tables.{keeping, entry_size, in_rows, room, row_room}
 use Rattle.tables.proofs.Room.{room_holds, room_of_law}
 use Rattle.tables.proofs.Rows.{room_numbers, numbers_room}
 use Rattle.numbering.specs.Types.{Rules}
-use Rattle.entries.specs.declared.Answer.{Answer}
-use Rattle.entries.specs.declared.Answer.TheVariants as answer
 use Rattle.outcomes.specs.Outcomes.{Outcome}
 use Rattle.codes.specs.Codes.{packed, refusal_number, state_in, state_out}
 use Rattle.answers.specs.Answers.{read_number, verdict_number}
@@ -102,17 +103,17 @@ module _ (bytes dir : List ℕ) (count : ℕ) (a b : Start bytes dir count) wher
   no_longer_back h = record { text = sym h.text; names = sym h.names; rows = sym h.rows }
 
 -- a number with code 9 is that of a refusal
-nine_refused : {P : Type 0} (k v : ℕ) (a : Answer) → read_number k a ≡ packed 9 v → ((q : Refusal) → a ≡ answer.Refused q → P) → P
+nine_refused : {P : Type 0} (k v : ℕ) (a : Answer) → read_number k a ≡ packed 9 v → ((q : Refusal) → a ≡ Err q → P) → P
 unfolding read_number packed
-nine_refused k v (answer.Kept n) e f = absurd (omega (arith, e))
-nine_refused k v answer.Done e f = absurd (omega (arith, e))
-nine_refused k v (answer.Refused q) e f = f q refl
+nine_refused k v (Ok (Some n)) e f = absurd (omega (arith, e))
+nine_refused k v (Ok None) e f = absurd (omega (arith, e))
+nine_refused k v (Err q) e f = f q refl
 
-nine_number : (o : Outcome) (k : ℕ) → o.answer ≡ answer.Refused (refusal.At 9 k) → (reads_of o).number ≡ packed 9 k
+nine_number : (o : Outcome) (k : ℕ) → o.answer ≡ Err (refusal.At reason.NoRoom k) → (reads_of o).number ≡ packed 9 k
 unfolding reads_of read_number refusal_number
 nine_number o k e = ap (read_number _) e
 
-nine_answer : {P : Type 0} (o : Outcome) (k : ℕ) → (reads_of o).number ≡ packed 9 k → ((q : Refusal) → o.answer ≡ answer.Refused q → P) → P
+nine_answer : {P : Type 0} (o : Outcome) (k : ℕ) → (reads_of o).number ≡ packed 9 k → ((q : Refusal) → o.answer ≡ Err q → P) → P
 unfolding reads_of
 nine_answer o k e f = nine_refused _ k o.answer e f
 
@@ -155,7 +156,7 @@ calls_more_room rules bytes dir count a b h =
     let r : Reads = opened bytes dir count a in
     let q : Reads = opened bytes dir count b in
     let m : MoreRoom rules bytes dir (lent_from r) (lent_from q) = beside rules bytes dir count a b h in
-    let numbered : (i k : ℕ) → (nth rules bytes dir (lent_from r) i).answer ≡ answer.Refused (refusal.At 9 k) → (nth_call rules bytes dir r i).number ≡ packed 9 k =
+    let numbered : (i k : ℕ) → (nth rules bytes dir (lent_from r) i).answer ≡ Err (refusal.At reason.NoRoom k) → (nth_call rules bytes dir r i).number ≡ packed 9 k =
     λ i k e. ap (λ (x : Reads). x.number) (nth_call_law rules bytes dir r i) ∙ nine_number _ k e in
     record {
       alike = λ n h. rw (nth_call_law rules bytes dir r n, nth_call_law rules bytes dir q n) (same_call _ _ (m.alike n (λ k e. h k (numbered n k e))));

@@ -1,5 +1,6 @@
 -- The request's example.
 use Prim.Native.Nat.{ℕ}
+use Rattle.std.specs.Prelude.{None, Ok}
 use mathlib.Core.Path.{◌≡◌, refl, ◌∙◌}
 use mathlib.Core.Bool.{true}
 use native.Mathlib.Omega.{arith}
@@ -18,7 +19,6 @@ use Rattle.steps.specs.Steps.{value_step, typed_step, step_at}
 use Rattle.bars.specs.Bars.{carries, barred}
 use Rattle.moving.specs.Moves.{past, value_past}
 use Rattle.names.specs.Names.{type_in, grown, ended, printable, onward, name_from, name_of}
-use Rattle.entries.specs.declared.Answer.TheVariants as answer
 use Rattle.outcomes.specs.Outcomes.{outcome, at_name}
 use Rattle.outcomes.specs.Keeping.{room_for, kept, keep_of}
 use Rattle.distances.specs.Distances.{diff_head}
@@ -38,7 +38,7 @@ abbrev three : ℕ → ℕ → ℕ → Lent
 three text names rows = nexts (bytes_in three_names) (dir_from 0 three_names) 3 (lent (cur_from 0 three_names) (empty (record { text = text; names = names; rows = rows }) (state 3 0 0 0)))
 
 after_three : (text names rows : ℕ) (said : Told) → in_directory three_names ≡ true → (three text names rows).kept.state.names ≡ (three text names rows).kept.state.count
-    → (three text names rows).cur ≡ end_from 0 three_names → told (outcome answer.Done (three text names rows).cur (three text names rows).kept) ≡ said → fourth text names rows ≡ said
+    → (three text names rows).cur ≡ end_from 0 three_names → told (outcome (Ok None) (three text names rows).cur (three text names rows).kept) ≡ said → fourth text names rows ≡ said
 after_three text names rows said ok k c e = over_done (record { text = text; names = names; rows = rows }) 3 three_names (omega arith) ok (three text names rows) refl k c ∙ e
 
 pub example_holds : Hold room_cases

@@ -1,5 +1,7 @@
 -- What room decides of one name, over two memories in which the same is used and of which one has at least as much room.
 use Prim.Native.Nat.{ℕ, ◌+◌, ◌-◌, ◌*◌, ◌≤◌}
+use Rattle.std.specs.Prelude.{Some, Ok, Err}
+use Rattle.refusals.specs.declared.Reason.TheVariants as reason
 use mathlib.Core.Path.{◌≡◌, refl, sym, ap, ◌∙◌, subst}
 use mathlib.Core.Bool.{Bool, true, false}
 use mathlib.Core.List.{List, [], ◌∷◌, ◌++◌}
@@ -13,14 +15,13 @@ use Rattle.base.proofs.Choice.{both_true, both_of, pick_holds, never}
 use Rattle.base.proofs.Memory.{length_written}
 use Rattle.base.proofs.Numbers.{by_order}
 use Rattle.block.specs.declared.State.{State}
-use Rattle.block.specs.declared.Refusal.TheVariants as refusal
+use Rattle.refusals.specs.declared.Refusal.TheVariants as refusal
 use Rattle.tables.specs.declared.Row.{Row}
 use Rattle.tables.specs.Tables.{Kept, keeping, Table, entry_size, room, row_room, row_at, put_rows}
 use Rattle.tables.proofs.Rows.{SameRows, below_put, within_put, room_put}
 use Rattle.kept.specs.Inside.{Counted}
 use Rattle.sources.specs.Source.{Source}
 use Rattle.names.specs.Names.{Draft, Named, named, refused}
-use Rattle.entries.specs.declared.Answer.TheVariants as answer
 use Rattle.entries.specs.Entries.{room_of, entry_of}
 use Rattle.outcomes.specs.Outcomes.{Outcome, at_name}
 use Rattle.outcomes.specs.Keeping.{room_for, kept}
@@ -32,7 +33,7 @@ use Rattle.moreroom.specs.Fates.{fits, fate_of, FateFurther}
 -- two reads that can be followed by the next: as `Further`, and the larger buffers stay larger
 pub data Fares (o p : Outcome) : Type 0 where
   alike : o.answer ≡ p.answer → o.cur ≡ p.cur → SameUsed o.kept p.kept → Larger o.kept p.kept → Fares o p
-  on : (k : ℕ) → o.answer ≡ answer.Refused (refusal.At 9 k) → p.answer ≡ answer.Kept k → Fares o p
+  on : (k : ℕ) → o.answer ≡ Err (refusal.At reason.NoRoom k) → p.answer ≡ Ok (Some k) → Fares o p
 
 pub further : (o p : Outcome) → Fares o p → Further o p
 further o p (alike e c u g) = statement.same (record { answer = e; cursors = c; used = u })

@@ -1,5 +1,8 @@
 -- C-18 over the definitions: reads one after another, the whole block, and claims.
 use Prim.Native.Nat.{ℕ, zero, suc, ◌+◌, ◌≤◌, ◌<◌}
+use Rattle.entries.specs.Entries.{Answer}
+use Rattle.std.specs.Prelude.{Some, None, Ok, Err}
+use Rattle.refusals.specs.declared.Reason.TheVariants as reason
 use mathlib.Core.Path.{◌≡◌, refl, sym, ap, ◌∙◌, subst}
 use mathlib.Core.List.{List, [], ◌∷◌}
 use native.Mathlib.Omega.{arith}
@@ -8,8 +11,8 @@ use Rattle.base.proofs.Choice.{by_test}
 use Rattle.comparing.specs.Same.{same}
 use Rattle.comparing.proofs.Equal.{same_equal, differ_same}
 use Rattle.block.specs.declared.State.{State}
-use Rattle.block.specs.declared.Refusal.{Refusal}
-use Rattle.block.specs.declared.Refusal.TheVariants as refusal
+use Rattle.refusals.specs.declared.Refusal.{Refusal}
+use Rattle.refusals.specs.declared.Refusal.TheVariants as refusal
 use Rattle.block.specs.Block.{state}
 use Rattle.block.proofs.Laws.{Accepted, accepted}
 use Rattle.tables.specs.Tables.{Kept, keeping}
@@ -17,9 +20,7 @@ use Rattle.kept.proofs.Later.{Later, later_same, later_then}
 use Rattle.numbering.specs.Types.{Rules}
 use Rattle.words.specs.Words.{telling}
 use Rattle.claims.specs.Claims.{name_text}
-use Rattle.sources.specs.Source.{Source, source}
-use Rattle.entries.specs.declared.Answer.{Answer}
-use Rattle.entries.specs.declared.Answer.TheVariants as answer
+use Rattle.sources.specs.Source.{source}
 use Rattle.outcomes.specs.Outcomes.{Outcome, outcome}
 use Rattle.reads.specs.Reads.{go_on, reads_from}
 use Rattle.reading.specs.Blocks.{opened_of, block_of}
@@ -44,8 +45,8 @@ pub record Beside (bytes dir : List ℕ) (l w : Lent) : Type 0 where
   pub used : SameUsed l.kept w.kept
   pub larger : Larger l.kept w.kept
 
-never_kept : {r : Refusal} {n : ℕ} → answer.Refused r ≡ answer.Kept n → ⊥
-never_kept q = let z : ◌≡◌ {A = ℕ} 0 1 = cc in omega arith
+never_kept : {r : Refusal} {n : ℕ} → Err r ≡ Ok (Some n) → ⊥
+never_kept q = cc
 
 -- at a fresh start nothing is used
 pub begins : (bytes dir : List ℕ) (count : ℕ) (l : Lent) → Fresh bytes dir count l → l.kept.state ≡ state count 0 0 0
@@ -131,13 +132,13 @@ module _ (rules : Rules) (bytes dir : List ℕ) where
   ever (suc n) l e zero h = absurd (omega arith)
   ever (suc n) l e (suc j) h = ever n (left (read rules bytes dir l)) e j (omega (arith, h))
 
-  refused_stays : (l : Lent) (q : Refusal) → (read rules bytes dir l).answer ≡ answer.Refused q → left (read rules bytes dir l) ≡ l
+  refused_stays : (l : Lent) (q : Refusal) → (read rules bytes dir l).answer ≡ Err q → left (read rules bytes dir l) ≡ l
   unfolding read left
   refused_stays l q e =
       let t : Untouched (source rules bytes dir l.cur) l.kept (read rules bytes dir l) = read_refused (source rules bytes dir l.cur) l.kept q e in
       ap (λ (c : List ℕ). lent c (read rules bytes dir l).kept) t.cursors ∙ ap (lent l.cur) t.memory
 
-  pub refused_ever : (l : Lent) (n : ℕ) (q : Refusal) → (nth rules bytes dir l n).answer ≡ answer.Refused q → (j : ℕ) → n ≤ j → nth rules bytes dir l j ≡ nth rules bytes dir l n
+  pub refused_ever : (l : Lent) (n : ℕ) (q : Refusal) → (nth rules bytes dir l n).answer ≡ Err q → (j : ℕ) → n ≤ j → nth rules bytes dir l j ≡ nth rules bytes dir l n
   refused_ever l n q e j i = ap (read rules bytes dir) (ever n l (refused_stays _ q e) j i)
 
   -- a read that doesn't meet 9 comes after none that does
@@ -147,7 +148,7 @@ module _ (rules : Rules) (bytes dir : List ℕ) where
 
   reads_alike : (n : ℕ) (l w : Lent) → Beside bytes dir l w → NotNine (nth rules bytes dir l n).answer → SameRead (nth rules bytes dir l n) (nth rules bytes dir w n)
   reads_alike n l w b h =
-      never_nine _ _ (reads_further n l w b (λ i k j e. h j (ap (λ (o : Outcome). o.answer) (refused_ever l i (refusal.At 9 j) e n (omega (arith, k))) ∙ e))) h
+      never_nine _ _ (reads_further n l w b (λ i k j e. h j (ap (λ (o : Outcome). o.answer) (refused_ever l i (refusal.At reason.NoRoom j) e n (omega (arith, k))) ∙ e))) h
 
   -- the same room in both
   used_back : (m w : Kept) → SameUsed m w → SameUsed w m
@@ -190,9 +191,9 @@ module _ (rules : Rules) (bytes dir : List ℕ) where
 
   go_later : (rest : Outcome → Outcome) → ((o : Outcome) → Later o.kept (rest o).kept) → (o : Outcome) (a : Answer) → Later o.kept (go_on rest o a).kept
   unfolding go_on
-  go_later rest h o (answer.Kept n) = h o
-  go_later rest h o answer.Done = later_same o.kept
-  go_later rest h o (answer.Refused r) = later_same o.kept
+  go_later rest h o (Ok (Some n)) = h o
+  go_later rest h o (Ok None) = later_same o.kept
+  go_later rest h o (Err r) = later_same o.kept
 
   reads_later : (f : ℕ) (o : Outcome) → Later o.kept (reads_from rules bytes dir f o).kept
   unfolding reads_from read left
@@ -207,24 +208,24 @@ module _ (rules : Rules) (bytes dir : List ℕ) where
   module _ (rest : Outcome → Outcome) (blocks : Blocks rest) (stays : (o : Outcome) → Later o.kept (rest o).kept) where
     go_alike : (o p : Outcome) → SameRead o p → Beside bytes dir (left o) (left p) → (a : Answer) → BlockFurther (go_on rest o a) (go_on rest p a)
     unfolding go_on
-    go_alike o p e b (answer.Kept n) = blocks o p e.answer b
-    go_alike o p e b answer.Done = statement.same e
-    go_alike o p e b (answer.Refused r) = statement.same e
+    go_alike o p e b (Ok (Some n)) = blocks o p e.answer b
+    go_alike o p e b (Ok None) = statement.same e
+    go_alike o p e b (Err r) = statement.same e
 
     -- where one has no room, the other goes on
-    go_on_law : (l w : Lent) → Beside bytes dir l w → (k : ℕ) → (read rules bytes dir l).answer ≡ answer.Refused (refusal.At 9 k) → (read rules bytes dir w).answer ≡ answer.Kept k
+    go_on_law : (l w : Lent) → Beside bytes dir l w → (k : ℕ) → (read rules bytes dir l).answer ≡ Err (refusal.At reason.NoRoom k) → (read rules bytes dir w).answer ≡ Ok (Some k)
         → BlockFurther (read rules bytes dir l) (rest (read rules bytes dir w))
     unfolding read left
     go_on_law l w b k e q =
         let o : Outcome = read rules bytes dir l in
         let p : Outcome = read rules bytes dir w in
         let same : o.kept ≡ l.kept = ap (λ (z : Lent). z.kept) (refused_stays l _ e) in
-        let is : k ≡ l.kept.state.names = carries_number (source rules bytes dir l.cur) l.kept 9 k e in
+        let is : k ≡ l.kept.state.names = carries_number (source rules bytes dir l.cur) l.kept reason.NoRoom k e in
         let one : p.kept.state.names ≡ w.kept.state.names + 1 = one_name rules bytes dir w k q in
         let t : Later w.kept (rest p).kept = later_then w.kept p.kept (rest p).kept (read_later w) (stays p) in
         let u : InBoth l.kept w.kept = b.used.parts in
         let st : l.kept.state ≡ w.kept.state = b.used.state in
-        statement.on (e ∙ ap (λ (i : ℕ). answer.Refused (refusal.At 9 i)) (is ∙ sym (ap (λ (m : Kept). m.state.names) same)))
+        statement.on (e ∙ ap (λ (i : ℕ). Err (refusal.At reason.NoRoom i)) (is ∙ sym (ap (λ (m : Kept). m.state.names) same)))
         (rw (same, st) (omega (arith, one, (stays p).names)))
         (rw same (record {
           text = u.text ∙ rw st (sym t.in_text);
@@ -258,7 +259,7 @@ more_room rules bytes dir count l w f g h =
     record {
       alike = λ n. reads_alike rules bytes dir n l w b;
       reads = λ n. reads_further rules bytes dir n l w b;
-      ever = λ n k e. refused_ever rules bytes dir l n (refusal.At 9 k) e;
+      ever = λ n k e. refused_ever rules bytes dir l n (refusal.At reason.NoRoom k) e;
       between = λ calls. (aside rules bytes dir calls l, aside rules bytes dir calls w);
       claims = λ calls others. same_claims rules bytes dir l w _ _ b.used.state (demand_3 rules bytes dir count l f calls) (demand_3 rules bytes dir count w g others);
     }
@@ -282,7 +283,7 @@ block_more_room rules bytes dir count a b h =
     let side : Beside bytes dir l w =
     fresh_beside bytes dir count l w (fresh_block bytes dir count a) (fresh_block bytes dir count b) (record { text = h.text; names = h.names; rows = h.rows }) in
     record {
-      further = rw (a.opens, b.opens) (blocks_further rules bytes dir (count + 1) (outcome answer.Done l.cur l.kept) (outcome answer.Done w.cur w.kept) refl side);
+      further = rw (a.opens, b.opens) (blocks_further rules bytes dir (count + 1) (outcome (Ok None) l.cur l.kept) (outcome (Ok None) w.cur w.kept) refl side);
       claims = λ calls others.
           same_claims rules bytes dir l w _ _ side.used.state (block_demand_3 (source rules bytes dir a.old) a.kept count a.state a.cur a.opens calls)
           (block_demand_3 (source rules bytes dir b.old) b.kept count b.state b.cur b.opens others);

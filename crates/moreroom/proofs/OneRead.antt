@@ -1,5 +1,9 @@
 -- One read over two memories in which the same is used, of which one has at least as much room.
 use Prim.Native.Nat.{ℕ, ◌+◌, ◌-◌, ◌*◌, ◌≤◌, ◌<◌}
+use Rattle.refusals.specs.declared.Reason.{Reason}
+use Rattle.distances.specs.Distances.{Head}
+use Rattle.std.specs.Prelude.{Ok, Err}
+use Rattle.distances.specs.declared.Reference.TheVariants as reference
 use mathlib.Core.Path.{◌≡◌, refl, sym, ap, subst}
 use mathlib.Core.List.{List, []}
 use native.Mathlib.Omega.{arith}
@@ -24,8 +28,6 @@ use Rattle.repeats.specs.Sound.{Rows}
 use Rattle.repeats.proofs.Laws.{rows_none, rows_judged}
 use Rattle.names.specs.Names.{Draft, draft, Named, named, refused, name_of}
 use Rattle.names.specs.Judge.{draft_of}
-use Rattle.distances.specs.declared.Head.{Head}
-use Rattle.distances.specs.declared.Head.TheVariants as head
 use Rattle.outcomes.specs.Outcomes.{Outcome, plain, at_name}
 use Rattle.outcomes.specs.Keeping.{keep_of}
 use Rattle.heads.specs.Heads.{head_of, head_past}
@@ -89,18 +91,18 @@ module _ (rules : Rules) (bytes dir cur : List ℕ) (st : State) (text names tex
         rw (copies_so s less d e, copies_so s more d e, ← same_part text text' st.text u.parts.text e.start (e.start + e.length) (omega arith) i.text.ends)
         (fate_fares s st text names text' names' rows rows' c c' u g (copy_of s text e) e.first e.rows d (λ x q. subst (λ (y : Draft). length y.rows ≡ y.count) (ap draft_of q) refl))
 
-    at_fares : (r : ℕ) → Fares (at_name s less r) (at_name s more r)
+    at_fares : (r : Reason) → Fares (at_name s less r) (at_name s more r)
     unfolding at_name
     at_fares r = alike refl refl u g
 
-    dups_fare : (d : ℕ) → 1 ≤ d → d ≤ st.names → Fares (headed_of s less (head.Dup (record { 0 = d }))) (headed_of s more (head.Dup (record { 0 = d })))
+    dups_fare : (d : ℕ) → 1 ≤ d → d ≤ st.names → Fares (headed_of s less (Ok (reference.Dup (record { 0 = d })))) (headed_of s more (Ok (reference.Dup (record { 0 = d }))))
     unfolding headed_of entry_back
     dups_fare d h l =
         let i : ℕ = st.names - d in
         let b : i < st.names = omega arith in
         rw (pick_true _ _ (f i b), pick_true _ _ (f' i b), entry_same i b) (copy_fares d (entry_at names i) (judged.earlier less i (f i b)))
 
-    diffs_fare : (d : ℕ) → d ≤ st.names → Fares (headed_of s less (head.Diff (record { 0 = d }))) (headed_of s more (head.Diff (record { 0 = d })))
+    diffs_fare : (d : ℕ) → d ≤ st.names → Fares (headed_of s less (Ok (reference.Diff (record { 0 = d })))) (headed_of s more (Ok (reference.Diff (record { 0 = d }))))
     unfolding headed_of entry_back none rows_of
     diffs_fare d l =
         pick_two Fares (eqb d 0) _ _ _ _ (λ z. diff_fares 0 0 0 (rows_none st.text text rows c.used) (omega arith))
@@ -113,9 +115,9 @@ module _ (rules : Rules) (bytes dir cur : List ℕ) (st : State) (text names tex
 
     headed_fares : (h : Head) → head_of s st.names ≡ h → Fares (headed_of s less h) (headed_of s more h)
     unfolding headed_of
-    headed_fares (head.Dup d) q = let t = dup_told s st.names d q in dups_fare d.0 t.0 t.1.near
-    headed_fares (head.Diff d) q = diffs_fare d.0 (diff_told s st.names d q).near
-    headed_fares (head.Refused r) q = at_fares r
+    headed_fares (Ok (reference.Dup d)) q = let t = dup_told s st.names d q in dups_fare d.0 t.0 t.1.near
+    headed_fares (Ok (reference.Diff d)) q = diffs_fare d.0 (diff_told s st.names d q).near
+    headed_fares (Err r) q = at_fares r
 
     next_fares : Fares (next_of s less) (next_of s more)
     unfolding next_of plain

@@ -1,9 +1,9 @@
 -- The request's example, computed: names a, b and c with room for two are refused with 9 at 2; with room for one more they are read, and then done.
-use Rattle.std.specs.Prelude.{ℕ, List, [], ◌∷◌, ◌++◌}
+use Rattle.std.specs.Prelude.{ℕ, List, [], ◌∷◌, ◌++◌, None, Ok}
+use Rattle.refusals.specs.declared.Reason.TheVariants as reason
 use Rattle.spans.specs.Spans.{four_bytes}
 use Rattle.block.specs.Streams.{type_stream, char_stream, diff_stream}
 use Rattle.numbering.specs.declared.TokenType.TheVariants.{Char, End}
-use Rattle.entries.specs.declared.Answer.TheVariants as answer
 use Rattle.demands.specs.Cases.{diff_number, Case, Stream, stream, types, Told, read_from, open_in, read_in}
 use Rattle.demands.specs.Bench.{refused_at, passes}
 
@@ -22,7 +22,7 @@ abbrev pub fourth : ℕ → ℕ → ℕ → Told
 fourth text names rows = read_from (record { text = text; names = names; rows = rows }) 3 three_names (open_in 3 three_names).cursors (open_in 3 three_names).answer
 
 abbrev pub stopped : Told
-stopped = refused_at 9 2 (97 ∷ 10 ∷ 98 ∷ 10 ∷ [])
+stopped = refused_at reason.NoRoom 2 (97 ∷ 10 ∷ 98 ∷ 10 ∷ [])
 
 abbrev pub room_cases : List Case
 room_cases =
@@ -32,5 +32,5 @@ room_cases =
     ∷ record { kind = Told × Told; given = (third 6 14 15, third 6 15 14); said = (stopped, stopped) }
     -- 6 bytes, 3 entries and 3 rows
     ∷ record { kind = Told; given = third 6 15 15; said = passes 2 (97 ∷ 10 ∷ 98 ∷ 10 ∷ 99 ∷ 10 ∷ []) }
-    ∷ record { kind = Told; given = fourth 6 15 15; said = record { answer = answer.Done; text = 97 ∷ 10 ∷ 98 ∷ 10 ∷ 99 ∷ 10 ∷ [] } }
+    ∷ record { kind = Told; given = fourth 6 15 15; said = record { answer = Ok None; text = 97 ∷ 10 ∷ 98 ∷ 10 ∷ 99 ∷ 10 ∷ [] } }
     ∷ []

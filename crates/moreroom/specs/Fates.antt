@@ -2,6 +2,7 @@
 -- room for it; else 9 comes last. C-18 of one name is said of this, so that a doubter can alter it and see that fall (must-fail/); that rules 3 and 4, as they
 -- stand, end in it is `NamesSo`, `CopiesSo`.
 use Rattle.std.specs.Prelude.{ℕ, ◌+◌, ◌≡◌, Bool, List, [], length}
+use Rattle.refusals.specs.declared.Reason.TheVariants as reason
 use Rattle.base.specs.Choice.{pick}
 use Rattle.base.specs.Memory.{part}
 use Rattle.block.specs.Streams.{dup_stream}
@@ -24,7 +25,7 @@ fits m x = room_of m (length x.text) x.count
 
 unfoldable pub fate_of : Source → Kept → Named → ℕ → ℕ → ℕ → Outcome
 fate_of s m (refused r) first rows distance = at_name s m r
-fate_of s m (named x) first rows distance = pick (fits m x) (kept m x first rows distance) (at_name s m 9)
+fate_of s m (named x) first rows distance = pick (fits m x) (kept m x first rows distance) (at_name s m reason.NoRoom)
 
 -- how many rows a name adds
 unfoldable pub count_of : Named → ℕ

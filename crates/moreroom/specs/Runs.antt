@@ -1,13 +1,12 @@
 -- C-18: two runs over one block, each from a fresh start of its own, the second with at least as much room. Nothing else tells them apart until the first has none.
-use Rattle.std.specs.Prelude.{ℕ, suc, ◌*◌, ◌≤◌, ◌<◌, ◌≡◌, List, [], ◌∷◌, length, take, replicate}
+use Rattle.std.specs.Prelude.{ℕ, suc, ◌*◌, ◌≤◌, ◌<◌, ◌≡◌, List, [], ◌∷◌, length, take, replicate, Some, Ok, Err}
+use Rattle.entries.specs.Entries.{Answer}
+use Rattle.refusals.specs.declared.Reason.TheVariants as reason
 use Rattle.block.specs.declared.State.{State}
-use Rattle.block.specs.declared.Refusal.TheVariants as refusal
-use Rattle.block.specs.declared.Opened.TheVariants as opened
+use Rattle.refusals.specs.declared.Refusal.TheVariants as refusal
 use Rattle.block.specs.Block.{open_of, opening}
 use Rattle.tables.specs.Tables.{Kept, entry_size, room, row_room, row_at}
 use Rattle.numbering.specs.Types.{Rules}
-use Rattle.entries.specs.declared.Answer.{Answer}
-use Rattle.entries.specs.declared.Answer.TheVariants as answer
 use Rattle.outcomes.specs.Outcomes.{Outcome}
 use Rattle.sources.specs.Source.{source}
 use Rattle.reading.specs.Blocks.{block_of}
@@ -41,7 +40,7 @@ pub record SameRead (o p : Outcome) : Type 0 where
 -- or 9 with less, and with more that very name is kept
 pub data Further (o p : Outcome) : Type 0 where
   same : SameRead o p → Further o p
-  on : (k : ℕ) → o.answer ≡ answer.Refused (refusal.At 9 k) → p.answer ≡ answer.Kept k → Further o p
+  on : (k : ℕ) → o.answer ≡ Err (refusal.At reason.NoRoom k) → p.answer ≡ Ok (Some k) → Further o p
 
 -- read n of a run, counted from 0: the one that comes after n others
 abbrev pub nth : Rules → List ℕ → List ℕ → Lent → ℕ → Outcome
@@ -49,7 +48,7 @@ nth rules bytes dir l n = read rules bytes dir (run rules bytes dir l (replicate
 
 -- any answer but 9
 abbrev pub NotNine : Answer → Type 0
-NotNine a = (k : ℕ) → a ≡ answer.Refused (refusal.At 9 k) → ⊥
+NotNine a = (k : ℕ) → a ≡ Err (refusal.At reason.NoRoom k) → ⊥
 
 -- how many of some calls are reads
 unfoldable pub reads_among : List Call → ℕ
@@ -70,7 +69,7 @@ pub record MoreRoom (rules : Rules) (bytes dir : List ℕ) (l w : Lent) : Type 0
   -- read n of one and read n of the other, as long as the first hasn't met 9 before; so at its first 9 too
   pub reads : (n : ℕ) → ((i : ℕ) → i < n → NotNine (nth rules bytes dir l i).answer) → Further (nth rules bytes dir l n) (nth rules bytes dir w n)
   -- once it has met 9, all its reads from there on answer and leave the same
-  pub ever : (n k : ℕ) → (nth rules bytes dir l n).answer ≡ answer.Refused (refusal.At 9 k) → (j : ℕ) → n ≤ j → nth rules bytes dir l j ≡ nth rules bytes dir l n
+  pub ever : (n k : ℕ) → (nth rules bytes dir l n).answer ≡ Err (refusal.At reason.NoRoom k) → (j : ℕ) → n ≤ j → nth rules bytes dir l j ≡ nth rules bytes dir l n
   -- claims in between are nothing to it: after any calls the memory is that after the reads among them
   pub between : (calls : List Call)
       → (run rules bytes dir l calls ≡ run rules bytes dir l (replicate (reads_among calls) reading)) × (run rules bytes dir w calls ≡ run rules bytes dir w (replicate (reads_among calls) reading))
@@ -91,7 +90,7 @@ RunsSameRoom =
 -- and those before it alike
 pub data BlockFurther (o p : Outcome) : Type 0 where
   same : SameRead o p → BlockFurther o p
-  on : o.answer ≡ answer.Refused (refusal.At 9 o.kept.state.names) → o.kept.state.names < p.kept.state.names → InBoth o.kept p.kept → BlockFurther o p
+  on : o.answer ≡ Err (refusal.At reason.NoRoom o.kept.state.names) → o.kept.state.names < p.kept.state.names → InBoth o.kept p.kept → BlockFurther o p
 
 pub record BlockMoreRoom (rules : Rules) (bytes dir : List ℕ) (o p : Outcome) : Type 0 where
   pub further : BlockFurther o p
@@ -104,7 +103,7 @@ pub record BlockStart (bytes dir : List ℕ) (count : ℕ) : Type 0 where
   pub kept : Kept
   pub state : State
   pub cur : List ℕ
-  pub opens : open_of (length bytes) dir count old ≡ opening (opened.Fresh state) cur
+  pub opens : open_of (length bytes) dir count old ≡ opening (Ok state) cur
 
 abbrev pub block_from : (rules : Rules) (bytes dir : List ℕ) (count : ℕ) → BlockStart bytes dir count → Outcome
 block_from rules bytes dir count a = block_of (source rules bytes dir a.old) a.kept count

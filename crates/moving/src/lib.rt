@@ -4,17 +4,17 @@
 ghost use Rattle.std.specs.Prelude.{◌≡◌, ◌≤◌, ◌<◌, ◌+◌, ◌^◌, length, set};
 ghost use Rattle.block.specs.Block.{span_of, cursor_of};
 ghost use Rattle.moving.specs.Moves.{past, value_past, Movable};
-ghost use Rattle.block.specs.Streams.{type_stream, digits0_stream, dzlen_stream};
+ghost use Rattle.block.specs.Streams.{stream_number, type_stream, digits0_stream, dzlen_stream};
 
-use block::stream;
+use block::Stream;
 use numbering::TokenType;
 use spans::{Cursor, Position};
 
 // A cursor so many bytes on.
-pub fn move_on(cursors: &mut [u32], p: Position, stream: u32, n: u32)
-    requires cursors_len { (length cursors.old ≡ 1290) × ((p.0 ≤ 128) × (stream ≤ 9)) }
-    requires n_bound { cursor_of cursors.old (span_of p.0 stream) + n < 2 ^ 32 }
-    ensures { cursors.new ≡ past cursors.old (span_of p.0 stream) n }
+pub fn move_on(cursors: &mut [u32], p: Position, stream: Stream, n: u32)
+    requires cursors_len { (length cursors.old ≡ 1290) × (p.0 ≤ 128) }
+    requires n_bound { cursor_of cursors.old (span_of p.0 (stream_number stream)) + n < 2 ^ 32 }
+    ensures { cursors.new ≡ past cursors.old (span_of p.0 (stream_number stream)) n }
 {
     let span = block::span_of(p, stream);
     let i = span.0;
@@ -22,9 +22,9 @@ pub fn move_on(cursors: &mut [u32], p: Position, stream: u32, n: u32)
     cursors[i] = at + n;
 }
 
-fn move_to(cursors: &mut [u32], p: Position, stream: u32, c: Cursor)
-    requires { (length cursors.old ≡ 1290) × ((p.0 ≤ 128) × (stream ≤ 9)) }
-    ensures { cursors.new ≡ set cursors.old (span_of p.0 stream) c.0 }
+fn move_to(cursors: &mut [u32], p: Position, stream: Stream, c: Cursor)
+    requires { (length cursors.old ≡ 1290) × (p.0 ≤ 128) }
+    ensures { cursors.new ≡ set cursors.old (span_of p.0 (stream_number stream)) c.0 }
 {
     let span = block::span_of(p, stream);
     let i = span.0;
@@ -37,8 +37,8 @@ fn move_padded(cursors: &mut [u32], p: Position, c: Cursor)
     requires dzlen_stream_bound { cursor_of cursors.old (span_of p.0 dzlen_stream) + 1 < 2 ^ 32 }
     ensures { cursors.new ≡ past (set cursors.old (span_of p.0 digits0_stream) c.0) (span_of p.0 dzlen_stream) 1 }
 {
-    move_to(cursors, p, stream::DIGITS0, c);
-    move_on(cursors, p, stream::DZLEN, 1);
+    move_to(cursors, p, Stream::Digits0, c);
+    move_on(cursors, p, Stream::Dzlen, 1);
 }
 
 fn move_value(cursors: &mut [u32], p: Position, t: TokenType, c: Cursor)
@@ -47,12 +47,12 @@ fn move_value(cursors: &mut [u32], p: Position, t: TokenType, c: Cursor)
     ensures { cursors.new ≡ value_past t p.0 c.0 cursors.old }
 {
     match t {
-        TokenType::String => move_to(cursors, p, stream::STRING, c),
-        TokenType::Char => move_to(cursors, p, stream::CHAR, c),
-        TokenType::Digits => move_to(cursors, p, stream::DIGITS, c),
+        TokenType::String => move_to(cursors, p, Stream::String, c),
+        TokenType::Char => move_to(cursors, p, Stream::Char, c),
+        TokenType::Digits => move_to(cursors, p, Stream::Digits, c),
         TokenType::Digits0 => move_padded(cursors, p, c),
-        TokenType::Delta => move_to(cursors, p, stream::DDELTA, c),
-        TokenType::Delta0 => move_to(cursors, p, stream::DDELTA0, c),
+        TokenType::Delta => move_to(cursors, p, Stream::Ddelta, c),
+        TokenType::Delta0 => move_to(cursors, p, Stream::Ddelta0, c),
         TokenType::Match => {}
         TokenType::End => {}
         TokenType::Other => {}
@@ -66,6 +66,6 @@ pub fn advance(cursors: &mut [u32], p: Position, t: TokenType, c: Cursor)
     requires movable { Movable t p.0 cursors.old }
     ensures { cursors.new ≡ value_past t p.0 c.0 (past cursors.old (span_of p.0 type_stream) 1) }
 {
-    move_on(cursors, p, stream::TYPE, 1);
+    move_on(cursors, p, Stream::Type, 1);
     move_value(cursors, p, t, c);
 }

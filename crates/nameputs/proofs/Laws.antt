@@ -7,7 +7,7 @@ use Rattle.block.specs.Block.{span_of}
 use Rattle.spans.specs.declared.Distance.{Distance}
 use Rattle.block.specs.Streams.{dup_stream, diff_stream}
 use Rattle.numbering.specs.Types.{Rules}
-use Rattle.references.specs.declared.Reference.TheVariants.{Dup, Diff}
+use Rattle.distances.specs.declared.Reference.TheVariants.{Dup, Diff}
 use Rattle.choices.specs.Choices.{choices_of}
 use Rattle.references.specs.References.{reference_of, leans_on}
 use Rattle.laying.specs.declared.Pass.{Pass}

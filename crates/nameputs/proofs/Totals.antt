@@ -1,5 +1,6 @@
 -- How much the names put: each put names a span, and the total has 32 bits.
 use Prim.Native.Nat.{ℕ, ◌+◌, ◌*◌, ◌^◌, ◌≤◌, ◌<◌}
+use Rattle.std.specs.Prelude.{None}
 use mathlib.Core.Path.{◌≡◌, refl, ap}
 use mathlib.Core.List.{List, [], ◌∷◌, ◌++◌}
 use native.Mathlib.Omega.{arith}
@@ -10,13 +11,12 @@ use Rattle.spans.specs.Spans.{four_bytes}
 use Rattle.block.proofs.Laws.{span_below}
 use Rattle.block.specs.Streams.{dup_stream, diff_stream}
 use Rattle.numbering.specs.Types.{Rules}
-use Rattle.references.specs.declared.Reference.{Reference}
-use Rattle.references.specs.declared.Reference.TheVariants.{Dup, Diff}
+use Rattle.distances.specs.declared.Reference.{Reference}
+use Rattle.distances.specs.declared.Reference.TheVariants.{Dup, Diff}
 use Rattle.choices.specs.Choices.{choices_from, choices_of}
 use Rattle.references.specs.References.{reference_of, leans_on}
 use Rattle.laying.specs.Puts.{total_of}
 use Rattle.laying.proofs.Passes.{Inside, inside_append, size_of, size_append, size_total}
-use Rattle.inputs.specs.declared.Judged.TheVariants.{Fine}
 use Rattle.inputs.specs.Inputs.{judged_from, names_after, names_of}
 use Rattle.tokenputs.specs.TokenPuts.{token_puts}
 use Rattle.nameputs.specs.NamePuts.{head_puts, reference_puts, name_puts, puts_from, puts_of}
@@ -58,7 +58,7 @@ pub name_size : (rules : Rules) (n : ℕ) (before s : List ℕ) → size_of (nam
 unfolding name_puts
 name_size rules n before s = reference_size rules (leans_on n before) s (reference_of n before s)
 
-pub puts_size : (rules : Rules) (n : ℕ) (before : List ℕ) (names : List (List ℕ)) → judged_from n names ≡ Fine → size_of (puts_from rules n before names) ≤ 1530 * length names
+pub puts_size : (rules : Rules) (n : ℕ) (before : List ℕ) (names : List (List ℕ)) → judged_from n names ≡ None → size_of (puts_from rules n before names) ≤ 1530 * length names
 unfolding puts_from
 puts_size rules n before [] e = omega arith
 puts_size rules n before (s ∷ ss) e =
@@ -66,7 +66,7 @@ puts_size rules n before (s ∷ ss) e =
     omega (arith, size_append (name_puts rules n before s) (puts_from rules (n + 1) s ss), name_size rules n before s, (good_holds s f.0).1.0, puts_size rules (n + 1) s ss f.1)
 
 -- 65,536 good names put less than 2^32 bytes
-pub total_below : (rules : Rules) (names : List (List ℕ)) → judged_from 0 names ≡ Fine → length names ≤ 65536 → total_of (puts_of rules names) < 2 ^ 32
+pub total_below : (rules : Rules) (names : List (List ℕ)) → judged_from 0 names ≡ None → length names ≤ 65536 → total_of (puts_of rules names) < 2 ^ 32
 unfolding puts_of
 total_below rules names e h = omega (arith, size_total (puts_from rules 0 [] names) (puts_inside rules 0 [] names), puts_size rules 0 [] names e)
 

@@ -4,8 +4,8 @@ use Rattle.spans.specs.Spans.{four_bytes}
 use Rattle.block.specs.Block.{span_of}
 use Rattle.block.specs.Streams.{type_stream, dup_stream, diff_stream}
 use Rattle.numbering.specs.Types.{Rules}
-use Rattle.references.specs.declared.Reference.{Reference}
-use Rattle.references.specs.declared.Reference.TheVariants.{Dup, Diff}
+use Rattle.distances.specs.declared.Reference.{Reference}
+use Rattle.distances.specs.declared.Reference.TheVariants.{Dup, Diff}
 use Rattle.choices.specs.Choices.{choices_of}
 use Rattle.references.specs.References.{reference_of, leans_on}
 use Rattle.laying.specs.Puts.{Put, put}

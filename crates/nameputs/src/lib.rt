@@ -7,10 +7,11 @@ ghost use Rattle.numbering.specs.Types.{rules_of};
 ghost use Rattle.laying.specs.Passes.{world, run_of, Roomy};
 ghost use Rattle.inputs.specs.Inputs.{names_of, ended};
 ghost use Rattle.nameputs.specs.NamePuts.{head_puts, diff_puts, name_puts, puts_of};
+ghost use Rattle.block.specs.Streams.{stream_number};
 
-use block::{Setting, stream};
+use block::{Setting, Stream};
+use distances::Reference;
 use laying::Pass;
-use references::Reference;
 use spans::{Distance, Position};
 
 // DUP or DIFF, by its number, and the distance in its stream.
@@ -20,14 +21,13 @@ fn put_head(
     directory: &mut [u32],
     bytes: &mut [u8],
     number: u8,
-    stream: u32,
+    stream: Stream,
     distance: Distance,
 ) -> u32
-    requires stream_bound { stream ≤ 9 }
-    requires roomy { Roomy pass (head_puts number stream distance.0) (world total directory.old bytes.old) }
-    ensures { world result directory.new bytes.new ≡ run_of pass (head_puts number stream distance.0) (world total directory.old bytes.old) }
+    requires roomy { Roomy pass (head_puts number (stream_number stream) distance.0) (world total directory.old bytes.old) }
+    ensures { world result directory.new bytes.new ≡ run_of pass (head_puts number (stream_number stream) distance.0) (world total directory.old bytes.old) }
 {
-    let types = block::span_of(Position(0), stream::TYPE);
+    let types = block::span_of(Position(0), Stream::Type);
     let next = laying::put_byte(pass, total, directory, bytes, types, number);
     let distances = block::span_of(Position(0), stream);
     laying::put_four(pass, next, directory, bytes, distances, distance.0)
@@ -56,7 +56,7 @@ fn put_diff(
         directory,
         bytes,
         number,
-        stream::DIFF,
+        Stream::Diff,
         distance,
     );
     tokenputs::put_tokens(set, pass, next, directory, bytes, table, before, name)
@@ -81,7 +81,7 @@ fn put_name(
         Reference::Dup(d) => {
             let kind = set.kind;
             let number = numbering::dup_number(kind);
-            put_head(pass, total, directory, bytes, number, stream::DUP, d)
+            put_head(pass, total, directory, bytes, number, Stream::Dup, d)
         }
         Reference::Diff(d) => put_diff(
             set,
@@ -113,24 +113,14 @@ pub fn put_names(
 {
     let mut total: u32 = 0;
     let mut n: u32 = 0;
-    let mut from: usize = 0;
-    let mut to: usize = 0;
+    let mut before: &[u8] = &[];
     let mut start: usize = 0;
+    // Not a `for`: where the next name starts is found from where this one ends.
     while start < input.len() {
         let end = inputs::name_end(input, start);
-        total = put_name(
-            set,
-            pass,
-            total,
-            directory,
-            bytes,
-            table,
-            n,
-            &input[from..to],
-            &input[start..end],
-        );
-        from = start;
-        to = end;
+        let name = &input[start..end];
+        total = put_name(set, pass, total, directory, bytes, table, n, before, name);
+        before = name;
         start = end + 1;
         n += 1;
     }

@@ -1,5 +1,8 @@
 -- The cursors that a name moves: each stays inside its span.
 use Prim.Native.Nat.{ℕ, ◌+◌, ◌≤◌}
+use Rattle.spans.specs.Spans.{Next}
+use Rattle.std.specs.Prelude.{Some, None, Ok, Err}
+use Rattle.refusals.specs.declared.Reason.TheVariants as reason
 use mathlib.Core.Path.{◌≡◌, refl, sym, ap, ◌∙◌}
 use mathlib.Core.List.{List}
 use native.Mathlib.Omega.{arith}
@@ -7,9 +10,6 @@ use lib.ListN.{set}
 use Rattle.bars.specs.Bars.{barred}
 use Rattle.base.proofs.Choice.{pick_true, pick_false, by_test}
 use Rattle.spans.specs.declared.Cursor.{Cursor}
-use Rattle.spans.specs.declared.NextByte.{NextByte}
-use Rattle.spans.specs.declared.NextByte.TheVariants as byte
-use Rattle.spans.specs.declared.NextFour.TheVariants as four
 use Rattle.spans.proofs.Laws.{byte_found, four_found}
 use Rattle.block.specs.Block.{span_of, end_of, cursor_of}
 use Rattle.block.specs.Open.{Open}
@@ -21,14 +21,10 @@ use Rattle.tokens.specs.declared.Token.{Token}
 use Rattle.numbering.specs.Types.{Rules, type_of}
 use Rattle.sources.specs.Source.{Source, source, Earlier, byte_in, four_in}
 use Rattle.sources.proofs.Cases.{Between}
-use Rattle.values.specs.declared.Step.TheVariants as step
 use Rattle.steps.specs.Steps.{value_step, typed_step, step_at}
 use Rattle.steps.proofs.Moves.{Moved, value_moved}
 use Rattle.moving.specs.Moves.{past, value_past}
 use Rattle.names.specs.Names.{type_in, type_at}
-
-never_refused : {t : Token} {c : Cursor} {r : ℕ} → step.Refused r ≡ step.Got t c → ⊥
-never_refused q = let z : ◌≡◌ {A = ℕ} 0 1 = cc in omega arith
 
 -- a cursor that a span's own cursor may move to
 pub record Reach (s : Source) (p i c : ℕ) : Type 0 where
@@ -36,13 +32,13 @@ pub record Reach (s : Source) (p i c : ℕ) : Type 0 where
   pub high : c ≤ end_of s.dir (span_of p i)
 
 module _ (s : Source) (p i : ℕ) where
-  pub byte_reach : {b : ℕ} {c : Cursor} → byte_in s p i ≡ byte.Value b c → (c.0 ≡ cursor_of s.cur (span_of p i) + 1) × Reach s p i (cursor_of s.cur (span_of p i) + 1)
+  pub byte_reach : {b : ℕ} {c : Cursor} → byte_in s p i ≡ Some (b, c) → (c.0 ≡ cursor_of s.cur (span_of p i) + 1) × Reach s p i (cursor_of s.cur (span_of p i) + 1)
   unfolding byte_in
   byte_reach {b} {c} q =
       let f = byte_found s.bytes (cursor_of s.cur (span_of p i)) (end_of s.dir (span_of p i)) q in
       (ap (λ (k : Cursor). k.0) f.past, record { low = omega arith; high = omega (arith, f.room) })
 
-  pub four_reach : {v : ℕ} {c : Cursor} → four_in s p i ≡ four.Value v c → (c.0 ≡ cursor_of s.cur (span_of p i) + 4) × Reach s p i (cursor_of s.cur (span_of p i) + 4)
+  pub four_reach : {v : ℕ} {c : Cursor} → four_in s p i ≡ Some (v, c) → (c.0 ≡ cursor_of s.cur (span_of p i) + 4) × Reach s p i (cursor_of s.cur (span_of p i) + 4)
   unfolding four_in
   four_reach {v} {c} q =
       let f = four_found s.bytes (cursor_of s.cur (span_of p i)) (end_of s.dir (span_of p i)) q in
@@ -50,7 +46,7 @@ module _ (s : Source) (p i : ℕ) where
 
 module _ (rules : Rules) (bytes dir cur : List ℕ) (o : Open bytes dir cur) (p : ℕ) (h : p ≤ 128) where
   -- past a type
-  pub open_typed : {b : ℕ} {c : Cursor} → byte_in (source rules bytes dir cur) p 0 ≡ byte.Value b c → Open bytes dir (past cur (span_of p 0) 1)
+  pub open_typed : {b : ℕ} {c : Cursor} → byte_in (source rules bytes dir cur) p 0 ≡ Some (b, c) → Open bytes dir (past cur (span_of p 0) 1)
   unfolding past
   open_typed q =
       let r = (byte_reach (source rules bytes dir cur) p 0 q).1 in
@@ -91,7 +87,7 @@ module _ (rules : Rules) (bytes dir cur now : List ℕ) (p : ℕ) (h : p ≤ 128
   open_value type.Other c m = w.opened
 
 module _ (rules : Rules) (bytes dir cur : List ℕ) (o : Open bytes dir cur) (e : Earlier) (p : ℕ) (h : p ≤ 128) where
-  typed : {b : ℕ} {c : Cursor} → byte_in (source rules bytes dir cur) p 0 ≡ byte.Value b c → Typed bytes dir cur (past cur (span_of p 0) 1) p
+  typed : {b : ℕ} {c : Cursor} → byte_in (source rules bytes dir cur) p 0 ≡ Some (b, c) → Typed bytes dir cur (past cur (span_of p 0) 1) p
   unfolding past
   typed q =
       record {
@@ -101,28 +97,28 @@ module _ (rules : Rules) (bytes dir cur : List ℕ) (o : Open bytes dir cur) (e 
             (λ z. let y = span_stream p i p 0 l (omega arith) z in omega arith);
       }
 
-  step_open : {t : Token} {c : Cursor} (n : NextByte) → byte_in (source rules bytes dir cur) p 0 ≡ n → typed_step (source rules bytes dir cur) e p n ≡ step.Got t c
+  step_open : {t : Token} {c : Cursor} (n : Next) → byte_in (source rules bytes dir cur) p 0 ≡ n → typed_step (source rules bytes dir cur) e p n ≡ Ok (Some (t, c))
       → Open bytes dir (value_past (type_in rules.numbers n) p c.0 (past cur (span_of p 0) 1))
   unfolding typed_step type_in
-  step_open {t} {c} (byte.Value b k) q r =
+  step_open {t} {c} (Some (b, k)) q r =
       let v = value_step (source rules bytes dir cur) e p k (type_of rules.numbers b) in
       by_test (barred p (type_of rules.numbers b))
-      (λ y. absurd (never_refused (sym (pick_true (step.Refused 7) v y) ∙ r)))
-      (λ y. open_value rules bytes dir cur (past cur (span_of p 0) 1) p h (typed q) (type_of rules.numbers b) c.0 (value_moved (source rules bytes dir cur) e p k (type_of rules.numbers b) (sym (pick_false (step.Refused 7) v y) ∙ r)))
-  step_open byte.Short q r = absurd (never_refused r)
+      (λ y. let z = sym (pick_true (Err reason.NotEnd) v y) ∙ r in (cc))
+      (λ y. open_value rules bytes dir cur (past cur (span_of p 0) 1) p h (typed q) (type_of rules.numbers b) c.0 (value_moved (source rules bytes dir cur) e p k (type_of rules.numbers b) (sym (pick_false (Err reason.NotEnd) v y) ∙ r)))
+  step_open None q r = cc
 
   -- past a token
-  pub open_token : {t : Token} {c : Cursor} → step_at (source rules bytes dir cur) e p ≡ step.Got t c
+  pub open_token : {t : Token} {c : Cursor} → step_at (source rules bytes dir cur) e p ≡ Ok (Some (t, c))
       → Open bytes dir (value_past (type_at (source rules bytes dir cur) p) p c.0 (past cur (span_of p 0) 1))
   unfolding step_at
   open_token q = step_open (byte_in (source rules bytes dir cur) p 0) refl q
 
-  end_open : (n : NextByte) → byte_in (source rules bytes dir cur) p 0 ≡ n → typed_step (source rules bytes dir cur) e p n ≡ step.End → Open bytes dir (past cur (span_of p 0) 1)
+  end_open : (n : Next) → byte_in (source rules bytes dir cur) p 0 ≡ n → typed_step (source rules bytes dir cur) e p n ≡ Ok None → Open bytes dir (past cur (span_of p 0) 1)
   unfolding typed_step
-  end_open (byte.Value b k) q r = open_typed rules bytes dir cur o p h q
-  end_open byte.Short q r = let z : ◌≡◌ {A = ℕ} 0 1 = cc in absurd (omega arith)
+  end_open (Some (b, k)) q r = open_typed rules bytes dir cur o p h q
+  end_open None q r = cc
 
   -- past an END
-  pub open_ended : step_at (source rules bytes dir cur) e p ≡ step.End → Open bytes dir (past cur (span_of p 0) 1)
+  pub open_ended : step_at (source rules bytes dir cur) e p ≡ Ok None → Open bytes dir (past cur (span_of p 0) 1)
   unfolding step_at
   open_ended q = end_open (byte_in (source rules bytes dir cur) p 0) refl q

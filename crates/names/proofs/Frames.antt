@@ -1,5 +1,9 @@
 -- The cursors of a name: those before its first position don't matter to it, and it leaves the block open.
 use Prim.Native.Nat.{ℕ, zero, suc, ◌+◌, ◌*◌, ◌≤◌}
+use Rattle.values.specs.Values.{Step}
+use Rattle.std.specs.Prelude.{Some, None, Ok, Err}
+use Rattle.refusals.specs.declared.Reason.{Reason}
+use Rattle.refusals.specs.declared.Reason.TheVariants as reason
 use mathlib.Core.Path.{◌≡◌, refl, sym, ap, ◌∙◌}
 use mathlib.Core.List.{List, []}
 use native.Mathlib.Omega.{arith}
@@ -12,14 +16,12 @@ use Rattle.block.specs.Open.{Open}
 use Rattle.tokens.specs.Tokens.{bytes_of}
 use Rattle.tokens.specs.declared.Token.{Token}
 use Rattle.numbering.specs.Types.{Rules}
-use Rattle.values.specs.declared.Step.{Step}
-use Rattle.values.specs.declared.Step.TheVariants as step
 use Rattle.sources.specs.Source.{Source, source, Earlier, byte_in}
 use Rattle.steps.specs.Steps.{step_at}
 use Rattle.steps.proofs.Frame.{byte_in_same, step_cursors}
-use Rattle.names.specs.declared.Judged.TheVariants as judged
 use Rattle.names.specs.Names.{Draft, draft, Named, named, refused, type_in, type_at, grown, ended, printable, onward, name_from, name_of}
 use Rattle.moving.specs.Moves.{past}
+use Rattle.names.specs.declared.Size.{Size}
 use Rattle.names.specs.Judge.{summary, draft_of}
 use Rattle.names.proofs.Cursors.{open_token, open_ended}
 use Rattle.moving.proofs.Moves.{past_later, value_later}
@@ -56,7 +58,7 @@ module _ (rules : Rules) (bytes dir cur : List ℕ) (e : Earlier) (used : ℕ) w
     type_here = byte_in_same rules bytes dir d.cur cur p (same_at p p d.cur cur same (omega arith)) 0 (omega arith)
 
     -- past its token
-    pub grown_open : (t : Token) (c : Cursor) → step_at (source rules bytes dir cur) e p ≡ step.Got t c → Open bytes dir (grown (source rules bytes dir cur) e used p t c.0 d).cur
+    pub grown_open : (t : Token) (c : Cursor) → step_at (source rules bytes dir cur) e p ≡ Ok (Some (t, c)) → Open bytes dir (grown (source rules bytes dir cur) e used p t c.0 d).cur
     unfolding grown
     grown_open t c q = rw (← type_here) (open_token rules bytes dir d.cur o e p high (step_here ∙ q))
 
@@ -68,7 +70,7 @@ module _ (rules : Rules) (bytes dir cur : List ℕ) (e : Earlier) (used : ℕ) w
 
     module _ (f : ℕ) (D : Draft)
         (on : (x : Draft) → Open bytes dir x.cur → SameFrom (p + 1) x.cur cur → name_from (source rules bytes dir cur) e used f (p + 1) x ≡ named D → Open bytes dir D.cur) where
-      ended_open : step_at (source rules bytes dir cur) e p ≡ step.End → named (ended p d) ≡ named D → Open bytes dir D.cur
+      ended_open : step_at (source rules bytes dir cur) e p ≡ Ok None → named (ended p d) ≡ named D → Open bytes dir D.cur
       unfolding ended
       ended_open q r =
           let w : ended p d ≡ D = cc in
@@ -78,17 +80,17 @@ module _ (rules : Rules) (bytes dir cur : List ℕ) (e : Earlier) (used : ℕ) w
       onward_open : (st : Step) → step_at (source rules bytes dir cur) e p ≡ st
           → onward (source rules bytes dir cur) e used p d st (name_from (source rules bytes dir cur) e used f (p + 1)) ≡ named D → Open bytes dir D.cur
       unfolding onward
-      onward_open (step.Got t c) q r =
+      onward_open (Ok (Some (t, c))) q r =
           let g = grown (source rules bytes dir cur) e used p t c.0 d in
           let y = name_from (source rules bytes dir cur) e used f (p + 1) g in
           by_test (printable (bytes_of bytes e.text t) (length d.text))
-          (λ z. on g (grown_open t c q) (grown_same t c) (sym (pick_true y (refused 8) z) ∙ r))
-          (λ z. absurd (never_named (sym (pick_false y (refused 8) z) ∙ r)))
-      onward_open step.End q r =
+          (λ z. on g (grown_open t c q) (grown_same t c) (sym (pick_true y (refused reason.BadName) z) ∙ r))
+          (λ z. absurd (never_named (sym (pick_false y (refused reason.BadName) z) ∙ r)))
+      onward_open (Ok None) q r =
           by_test (eqb (length d.text) 0)
-          (λ z. absurd (never_named (sym (pick_true (refused 8) (named (ended p d)) z) ∙ r)))
-          (λ z. ended_open q (sym (pick_false (refused 8) (named (ended p d)) z) ∙ r))
-      onward_open (step.Refused n) q r = absurd (never_named r)
+          (λ z. absurd (never_named (sym (pick_true (refused reason.BadName) (named (ended p d)) z) ∙ r)))
+          (λ z. ended_open q (sym (pick_false (refused reason.BadName) (named (ended p d)) z) ∙ r))
+      onward_open (Err n) q r = absurd (never_named r)
 
   from_open : (f p : ℕ) (d D : Draft) → p + f ≤ 129 → Open bytes dir d.cur → SameFrom p d.cur cur
       → name_from (source rules bytes dir cur) e used f p d ≡ named D → Open bytes dir D.cur
@@ -107,17 +109,16 @@ pub record Judges (n : Named) (r b : ℕ) : Type 0 where
   pub rows : (draft_of n).count ≡ r
   pub bytes : length (draft_of n).text ≡ b
 
-pub judged_name : (n : Named) {r b : ℕ} → judged.Name r b ≡ summary n → Judges n r b
+pub judged_name : (n : Named) {s : Size} → Ok s ≡ summary n → Judges n s.rows s.length
 unfolding summary draft_of
-judged_name (named d) {r} {b} q =
-    let x : r ≡ d.count = cc in
-    let y : b ≡ length d.text = cc in
-    record { whole = refl; rows = sym x; bytes = sym y }
-judged_name (refused k) q = let z : ◌≡◌ {A = ℕ} 0 1 = cc in absurd (omega arith)
+judged_name (named d) {s} q =
+    let w : s ≡ record { rows = d.count; length = length d.text } = cc in
+    record { whole = refl; rows = sym (ap (λ (x : Size). x.rows) w); bytes = sym (ap (λ (x : Size). x.length) w) }
+judged_name (refused k) q = cc
 
-pub judged_refused : (n : Named) {r : ℕ} → judged.Refused r ≡ summary n → n ≡ refused r
+pub judged_refused : (n : Named) {r : Reason} → Err r ≡ summary n → n ≡ refused r
 unfolding summary
-judged_refused (named d) q = let z : ◌≡◌ {A = ℕ} 0 1 = cc in absurd (omega arith)
+judged_refused (named d) q = cc
 judged_refused (refused k) {r} q = let x : r ≡ k = cc in ap refused (sym x)
 
 -- the bounds of a name

@@ -1,5 +1,9 @@
 -- A name grows position by position: what its text and rows come to, and what it doesn't depend on.
 use Prim.Native.Nat.{ℕ, zero, suc, ◌+◌, ◌≤◌, ◌<◌}
+use Rattle.values.specs.Values.{Step}
+use Rattle.std.specs.Prelude.{Some, None, Ok, Err}
+use Rattle.refusals.specs.declared.Reason.{Reason}
+use Rattle.refusals.specs.declared.Reason.TheVariants as reason
 use mathlib.Core.Path.{◌≡◌, refl, sym, ap, ◌∙◌}
 use mathlib.Core.Bool.{true, false}
 use mathlib.Core.List.{List, [], ◌∷◌}
@@ -13,14 +17,12 @@ use Rattle.classes.specs.Classes.{all_allowed}
 use Rattle.spans.specs.declared.Cursor.{Cursor}
 use Rattle.tokens.specs.Tokens.{bytes_of, row_of}
 use Rattle.tokens.specs.declared.Token.{Token}
-use Rattle.values.specs.declared.Step.{Step}
-use Rattle.values.specs.declared.Step.TheVariants as step
 use Rattle.sources.specs.Source.{Source, Earlier}
 use Rattle.steps.specs.Steps.{step_at}
 use Rattle.names.specs.Names.{Draft, Named, named, refused, type_at, grown, ended, printable, onward, name_from}
 
-pub never_named : {r : ℕ} {d : Draft} → refused r ≡ named d → ⊥
-never_named q = let z : ◌≡◌ {A = ℕ} 0 1 = cc in omega arith
+pub never_named : {r : Reason} {d : Draft} → refused r ≡ named d → ⊥
+never_named q = cc
 
 pub printable_short : (bytes : List ℕ) (n : ℕ) → printable bytes n ≡ true → n + length bytes ≤ 254
 unfolding printable
@@ -77,16 +79,16 @@ module _ (s : Source) (e : Earlier) (used p f : ℕ) (d D : Draft) (rest : Draft
 
   onward_grows : (st : Step) → onward s e used p d st rest ≡ named D → Grows d D (suc f)
   unfolding onward
-  onward_grows (step.Got t c) q =
+  onward_grows (Ok (Some (t, c))) q =
       let g = grown s e used p t c.0 d in
       by_test (printable (bytes_of s.bytes e.text t) (length d.text))
-      (λ y. grown_grows s e used p f d D t c.0 y (more g (sym (pick_true (rest g) (refused 8) y) ∙ q)))
-      (λ y. absurd (never_named (sym (pick_false (rest g) (refused 8) y) ∙ q)))
-  onward_grows step.End q =
+      (λ y. grown_grows s e used p f d D t c.0 y (more g (sym (pick_true (rest g) (refused reason.BadName) y) ∙ q)))
+      (λ y. absurd (never_named (sym (pick_false (rest g) (refused reason.BadName) y) ∙ q)))
+  onward_grows (Ok None) q =
       by_test (eqb (length d.text) 0)
-      (λ y. absurd (never_named (sym (pick_true (refused 8) (named (ended p d)) y) ∙ q)))
-      (λ y. ended_grows y (sym (pick_false (refused 8) (named (ended p d)) y) ∙ q))
-  onward_grows (step.Refused r) q = absurd (never_named q)
+      (λ y. absurd (never_named (sym (pick_true (refused reason.BadName) (named (ended p d)) y) ∙ q)))
+      (λ y. ended_grows y (sym (pick_false (refused reason.BadName) (named (ended p d)) y) ∙ q))
+  onward_grows (Err r) q = absurd (never_named q)
 
 pub grows : (s : Source) (e : Earlier) (used f p : ℕ) (d D : Draft) → name_from s e used f p d ≡ named D → Grows d D f
 unfolding name_from
@@ -97,7 +99,7 @@ grows s e used (suc f) p d D q = onward_grows s e used p f d D (name_from s e us
 pub record Alike (s s' : Source) (e e' : Earlier) (p : ℕ) : Type 0 where
   pub steps : (q : ℕ) → p ≤ q → q ≤ 128 → step_at s' e' q ≡ step_at s e q
   pub types : (q : ℕ) → p ≤ q → q ≤ 128 → type_at s' q ≡ type_at s q
-  pub bytes : (q : ℕ) → p ≤ q → q ≤ 128 → (t : Token) (c : Cursor) → step_at s e q ≡ step.Got t c
+  pub bytes : (q : ℕ) → p ≤ q → q ≤ 128 → (t : Token) (c : Cursor) → step_at s e q ≡ Ok (Some (t, c))
       → bytes_of s'.bytes e'.text t ≡ bytes_of s.bytes e.text t
 
 module _ (s s' : Source) (e e' : Earlier) (used p : ℕ) (d : Draft) (rest rest' : Draft → Named) (k : type_at s' p ≡ type_at s p)
@@ -106,15 +108,15 @@ module _ (s s' : Source) (e e' : Earlier) (used p : ℕ) (d : Draft) (rest rest'
   unfolding grown
   grown_same t c b = rw (b, k)
 
-  onward_same : (st : Step) → ((t : Token) (c : Cursor) → st ≡ step.Got t c → bytes_of s'.bytes e'.text t ≡ bytes_of s.bytes e.text t)
+  onward_same : (st : Step) → ((t : Token) (c : Cursor) → st ≡ Ok (Some (t, c)) → bytes_of s'.bytes e'.text t ≡ bytes_of s.bytes e.text t)
       → onward s' e' used p d st rest' ≡ onward s e used p d st rest
   unfolding onward
-  onward_same (step.Got t c) h =
+  onward_same (Ok (Some (t, c))) h =
       let b = h t c refl in
-      rw b (ap (λ (x : Named). pick (printable (bytes_of s.bytes e.text t) (length d.text)) x (refused 8))
+      rw b (ap (λ (x : Named). pick (printable (bytes_of s.bytes e.text t) (length d.text)) x (refused reason.BadName))
       (r (grown s' e' used p t c.0 d) ∙ ap rest (grown_same t c.0 b)))
-  onward_same step.End h = refl
-  onward_same (step.Refused n) h = refl
+  onward_same (Ok None) h = refl
+  onward_same (Err n) h = refl
 
 pub name_same : (s s' : Source) (e e' : Earlier) (used f p : ℕ) (d : Draft) → p + f ≤ 129 → Alike s s' e e' p → name_from s' e' used f p d ≡ name_from s e used f p d
 unfolding name_from

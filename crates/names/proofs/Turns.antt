@@ -1,5 +1,10 @@
 -- A name kept token by token: the memory holds it as far as it is read, and the rest of it is what it was.
 use Prim.Native.Nat.{ℕ, suc, ◌+◌, ◌-◌, ◌*◌, ◌^◌, ◌≤◌, ◌<◌}
+use Rattle.spans.specs.Spans.{Next}
+use Rattle.values.specs.Values.{Step}
+use Rattle.std.specs.Prelude.{Some, None, Ok, Err}
+use Rattle.refusals.specs.declared.Reason.{Reason}
+use Rattle.refusals.specs.declared.Reason.TheVariants as reason
 use mathlib.Core.Path.{◌≡◌, refl, sym, ap, ◌∙◌}
 use mathlib.Core.Bool.{true}
 use mathlib.Core.List.{List, [], ◌∷◌, ◌++◌}
@@ -11,7 +16,6 @@ use Rattle.base.proofs.Choice.{pick_true, pick_false, by_test}
 use Rattle.base.proofs.Memory.{written_next, written_none}
 use Rattle.base.specs.Every.{Below}
 use Rattle.spans.specs.declared.Cursor.{Cursor}
-use Rattle.spans.specs.declared.NextByte.{NextByte}
 use Rattle.block.specs.Block.{span_of, end_of, cursor_of}
 use Rattle.block.specs.Open.{Open}
 use Rattle.tables.specs.Tables.{Table, row_room, put_rows}
@@ -21,8 +25,6 @@ use Rattle.tokens.specs.declared.Token.{Token}
 use Rattle.tokens.specs.Tokens.{bytes_of, length_of, row_of}
 use Rattle.tokens.proofs.Laws.{length_bytes}
 use Rattle.numbering.specs.Types.{Rules}
-use Rattle.values.specs.declared.Step.{Step}
-use Rattle.values.specs.declared.Step.TheVariants as step
 use Rattle.sources.specs.Source.{Source, source, Earlier, earlier, byte_in}
 use Rattle.steps.specs.Steps.{typed_step, step_at}
 use Rattle.repeats.specs.Sound.{Rows}
@@ -37,7 +39,7 @@ use Rattle.moving.proofs.Moves.{past_later, value_later}
 use Rattle.names.proofs.Behind.{Stays, stays}
 use Rattle.names.proofs.Growing.{never_named, grows, name_same, printable_short}
 
-pub step_of : (s : Source) (e : Earlier) (p : ℕ) {found : NextByte} {r : Step} → found ≡ byte_in s p 0 → r ≡ typed_step s e p found → r ≡ step_at s e p
+pub step_of : (s : Source) (e : Earlier) (p : ℕ) {found : Next} {r : Step} → found ≡ byte_in s p 0 → r ≡ typed_step s e p found → r ≡ step_at s e p
 unfolding step_at
 step_of s e p f q = q ∙ ap (typed_step s e p) f
 
@@ -104,20 +106,20 @@ module _ (rules : Rules) (bytes dir text₀ : List ℕ) (rows₀ : Table) (first
   unfolding name_from
   one = let e : 129 - p ≡ suc (129 - (p + 1)) = omega (arith, g.high) in rw e at g.goes
 
-  pub never_refuses : {r : ℕ} → step_at (source rules bytes dir cur) (earlier text rows first count) p ≡ step.Refused r → ⊥
+  pub never_refuses : {r : Reason} → step_at (source rules bytes dir cur) (earlier text rows first count) p ≡ Err r → ⊥
   unfolding onward
   never_refuses q = never_named (rw q at one)
 
-  end_of_law : step_at (source rules bytes dir cur) (earlier text rows first count) p ≡ step.End → names.ended p g.d ≡ draft_of n
+  end_of_law : step_at (source rules bytes dir cur) (earlier text rows first count) p ≡ Ok None → names.ended p g.d ≡ draft_of n
   unfolding onward
   end_of_law q =
       let o = rw q at one in
       by_test (eqb (length g.d.text) 0)
-      (λ y. absurd (never_named (sym (pick_true (refused 8) (named (names.ended p g.d)) y) ∙ o)))
-      (λ y. let z = sym (pick_false (refused 8) (named (names.ended p g.d)) y) ∙ o in (cc))
+      (λ y. absurd (never_named (sym (pick_true (refused reason.BadName) (named (names.ended p g.d)) y) ∙ o)))
+      (λ y. let z = sym (pick_false (refused reason.BadName) (named (names.ended p g.d)) y) ∙ o in (cc))
 
   -- END: byte 10 behind the text
-  pub ends : {text' cur' : List ℕ} → step_at (source rules bytes dir cur) (earlier text rows first count) p ≡ step.End
+  pub ends : {text' cur' : List ℕ} → step_at (source rules bytes dir cur) (earlier text rows first count) p ≡ Ok None
       → cur' ≡ past cur (span_of p 0) 1 → text' ≡ written text at (10 ∷ []) → memory text' rows cur' ≡ put_name used row text₀ rows₀ (draft_of n)
   unfolding put_name names.ended
   ends {text'} {cur'} q c t =
@@ -136,21 +138,21 @@ module _ (rules : Rules) (bytes dir text₀ : List ℕ) (rows₀ : Table) (first
       let ce : cur' ≡ (draft_of n).cur = c ∙ ap (λ (x : List ℕ). past x (span_of p 0) 1) g.cursors ∙ dc in
       cc
 
-  end_there : step_at (source rules bytes dir cur) (earlier text rows first count) p ≡ step.End → cursor_of cur (span_of p 0) + 1 < 2 ^ 32
+  end_there : step_at (source rules bytes dir cur) (earlier text rows first count) p ≡ Ok None → cursor_of cur (span_of p 0) + 1 < 2 ^ 32
   unfolding end_of
   end_there q =
       let w = (ended (source rules bytes dir cur) (earlier text rows first count) used p (known_at p (omega arith) g.high) q).there in
       omega (arith, dir_below (2 * span_of p 0 + 1))
 
   -- what keeping END asks for
-  pub end_asks : step_at (source rules bytes dir cur) (earlier text rows first count) p ≡ step.End
+  pub end_asks : step_at (source rules bytes dir cur) (earlier text rows first count) p ≡ Ok None
       → ((length cur ≡ 1290) × ((p ≤ 128) × (cursor_of cur (span_of p 0) + 1 < 2 ^ 32))) × (at + 1 ≤ length text)
   unfolding names.ended
   end_asks q =
       let dl = ap (λ (x : Draft). length x.text) (end_of_law q) in
       ((g.opened.table, (g.high, end_there q)), omega (arith, room.bytes, g.place, g.length_text))
 
-  module _ (t : Token) (c : Cursor) (q : step_at (source rules bytes dir cur) (earlier text rows first count) p ≡ step.Got t c) where
+  module _ (t : Token) (c : Cursor) (q : step_at (source rules bytes dir cur) (earlier text rows first count) p ≡ Ok (Some (t, c))) where
     next : Draft
     next = grown (source rules bytes dir cur) (earlier text rows first count) used p t c.0 g.d
 
@@ -163,11 +165,11 @@ module _ (rules : Rules) (bytes dir text₀ : List ℕ) (rows₀ : Table) (first
         let o = rw q at one in
         by_test (printable (bytes_of bytes text t) (length g.d.text))
         (λ y. y)
-        (λ y. absurd (never_named (sym (pick_false _ (refused 8) y) ∙ o)))
+        (λ y. absurd (never_named (sym (pick_false _ (refused reason.BadName) y) ∙ o)))
 
     rest : name_from (source rules bytes dir cur) (earlier text rows first count) used (129 - (p + 1)) (p + 1) next ≡ named (draft_of n)
     unfolding onward next
-    rest = sym (pick_true (name_from (source rules bytes dir cur) (earlier text rows first count) used (129 - (p + 1)) (p + 1) next) (refused 8) prints) ∙ rw q at one
+    rest = sym (pick_true (name_from (source rules bytes dir cur) (earlier text rows first count) used (129 - (p + 1)) (p + 1) next) (refused reason.BadName) prints) ∙ rw q at one
 
     wide : length (bytes_of bytes text t) ≡ length_of t
     wide = length_bytes bytes text t told.inside

@@ -1,13 +1,11 @@
 -- What is judged of a name, and the name that is kept.
-use Rattle.std.specs.Prelude.{[], length}
-use Rattle.names.specs.declared.Judged.{Judged}
-use Rattle.names.specs.declared.Judged.TheVariants as judged
-use Rattle.names.specs.Names.{Draft, draft, Named, named, refused}
+use Rattle.std.specs.Prelude.{[], length, Ok, Err}
+use Rattle.names.specs.Names.{Judged, Draft, draft, Named, named, refused}
 
 -- how many rows and bytes a name has, or its refusal
 unfoldable pub summary : Named → Judged
-summary (named d) = judged.Name d.count (length d.text)
-summary (refused r) = judged.Refused r
+summary (named d) = Ok (record { rows = d.count; length = length d.text })
+summary (refused r) = Err r
 
 -- the name, and nothing where it is refused
 unfoldable pub draft_of : Named → Draft

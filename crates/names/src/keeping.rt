@@ -12,18 +12,18 @@ ghost use Rattle.tables.specs.Tables.{in_rows, row_room};
 
 use block::Setting;
 use numbering::TokenType;
-use spans::{Cursor, NextByte, Position};
+use spans::{Cursor, Position};
 use tokens::Token;
 
-pub fn type_in(set: Setting, found: NextByte) -> TokenType
+pub fn type_in(set: Setting, found: Option<(u8, Cursor)>) -> TokenType
     ensures { result ≡ type_in (numbers_of set.kind) found }
 {
     match found {
-        NextByte::Value(b, _) => {
+        Some((b, _)) => {
             let kind = set.kind;
             numbering::type_of(kind, b)
         }
-        NextByte::Short => TokenType::Other,
+        None => TokenType::Other,
     }
 }
 

@@ -4,9 +4,9 @@
 pub mod judging;
 pub mod keeping;
 
-// What is judged of a name: how many rows and bytes it has, or its refusal.
+// What is judged of a name: how many rows and bytes it has.
 #[derive(Clone, Copy)]
-pub enum Judged {
-    Name { rows: u32, length: u32 },
-    Refused(u32),
+pub struct Size {
+    pub rows: u32,
+    pub length: u32,
 }

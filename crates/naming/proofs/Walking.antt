@@ -1,5 +1,9 @@
 -- A name in two walks, the first of which judges it and the second of which keeps it: what is known where each starts, and what each way out leaves.
 use Prim.Native.Nat.{ℕ, ◌+◌, ◌*◌, ◌^◌, ◌≤◌, ◌<◌}
+use Rattle.names.specs.Names.{Judged, Draft, Named, named, refused, name_of}
+use Rattle.std.specs.Prelude.{Ok, Err}
+use Rattle.refusals.specs.declared.Reason.{Reason}
+use Rattle.refusals.specs.declared.Reason.TheVariants as reason
 use mathlib.Core.Path.{◌≡◌, refl, sym, ap, ◌∙◌}
 use mathlib.Core.Bool.{Bool, true, false}
 use mathlib.Core.List.{List}
@@ -17,9 +21,7 @@ use Rattle.tables.specs.Tables.{entry_size, keeping, Table}
 use Rattle.kept.specs.Inside.{Counted}
 use Rattle.sources.specs.Source.{source, Earlier, earlier}
 use Rattle.repeats.specs.Sound.{Rows}
-use Rattle.names.specs.declared.Judged.{Judged}
-use Rattle.names.specs.declared.Judged.TheVariants as judged
-use Rattle.names.specs.Names.{Draft, Named, named, refused, name_of}
+use Rattle.names.specs.declared.Size.{Size}
 use Rattle.names.specs.Judge.{summary, draft_of}
 use Rattle.names.specs.Keeps.{Memory, memory, put_name, Roomy}
 use Rattle.repeating.specs.Repeats.{RowsSpelt, Repeats}
@@ -36,8 +38,8 @@ use Rattle.heads.proofs.Heads.{head_same, head_open, head_passable}
 use Rattle.outcomes.proofs.Keeping.{room_same, keep_refused, keep_kept}
 use Rattle.entries.proofs.Entries.{Room, has_room, enter_asks}
 
-never_both : {r : ℕ} {d : Draft} → named d ≡ refused r → ⊥
-never_both q = let z : ◌≡◌ {A = ℕ} 0 1 = cc in omega arith
+never_both : {r : Reason} {d : Draft} → named d ≡ refused r → ⊥
+never_both q = cc
 
 -- no earlier name has no rows
 pub none_spelt : (text : List ℕ) (rows : Table) → RowsSpelt (earlier text rows 0 0)
@@ -151,17 +153,17 @@ module _ (rules : Rules) (bytes dir cur text names : List ℕ) (rows : Table) (s
           let c = s.cursors ∙ pick_false _ _ q in
           left ∙ pick_false _ _ q ∙ rw (s.texts, s.table, c)
 
-      judges : (size added : ℕ) → j ≡ judged.Name added size → Judges name added size
-      judges size added q = judged_name name (sym q ∙ sums)
+      judges : (size : Size) → j ≡ Ok size → Judges name size.rows size.length
+      judges size q = judged_name name (sym q ∙ sums)
 
-      bounds : (size added : ℕ) → j ≡ judged.Name added size → (size ≤ 254) × (added ≤ 127)
-      bounds size added q =
-          let w = judges size added q in
+      bounds : (size : Size) → j ≡ Ok size → (size.length ≤ 254) × (size.rows ≤ 127)
+      bounds size q =
+          let w = judges size q in
           let b = name_bounds (source rules bytes dir cur) (earlier text rows first count) st.text (head_past cur diff_stream) _ w.whole in
           (omega (arith, b.short (omega arith), w.bytes), omega (arith, b.few, w.rows))
 
       -- refused for itself: not where it was judged before
-      pub walk_refused : {z : Reading} (n : ℕ) → j ≡ judged.Refused n → z ≡ refusing st n
+      pub walk_refused : {z : Reading} (n : Reason) → j ≡ Err n → z ≡ refusing st n
           → outcome z.answer cur'' (keeping z.state text'' names' rows'') ≡ diff_of (source rules bytes dir cur) (keeping st text names rows) distance (earlier text rows first count)
       unfolding diff_of named_of refusing at_name
       walk_refused {z} n q e =
@@ -172,33 +174,33 @@ module _ (rules : Rules) (bytes dir cur text names : List ℕ) (rows : Table) (s
           let u = unwritten y in
           rw (ap (λ (m : Memory). m.text) u, ap (λ (m : Memory). m.rows) u, ap (λ (m : Memory). m.cur) u, s.entries, w, e))
 
-      module _ (size added : ℕ) (q : j ≡ judged.Name added size) where
+      module _ (size : Size) (q : j ≡ Ok size) where
         -- judged, and no room for it
-        pub walk_full : {z : Reading} → keeps ≡ false → room_of (keeping st text'' names' rows'') size added ≡ false → z ≡ refusing st 9
+        pub walk_full : {z : Reading} → keeps ≡ false → room_of (keeping st text'' names' rows'') size.length size.rows ≡ false → z ≡ refusing st reason.NoRoom
             → outcome z.answer cur'' (keeping z.state text'' names' rows'') ≡ diff_of (source rules bytes dir cur) (keeping st text names rows) distance (earlier text rows first count)
         unfolding diff_of named_of
         walk_full y h e =
             let u = unwritten y in
-            let w = judges size added q in
+            let w = judges size q in
             let t = ap (λ (m : Memory). m.text) u in
             let n = s.entries in
             let l = ap (λ (m : Memory). m.rows) u in
             rw (t, l, ap (λ (m : Memory). m.cur) u, n, w.whole)
-            (keep_refused rules bytes dir cur text names rows st (draft_of name) st.rows (draft_of name).count distance size added (sym w.bytes) (sym w.rows) (rw (t, l, n) at h) e)
+            (keep_refused rules bytes dir cur text names rows st (draft_of name) st.rows (draft_of name).count distance size.length size.rows (sym w.bytes) (sym w.rows) (rw (t, l, n) at h) e)
 
         -- what moving past the head asks for
-        pub head_asks : keeps ≡ false → Below (2 ^ 32) dir → ((length cur'' ≡ 1290) × ((1 ≤ 6) × (6 ≤ 9))) × Passable cur'' diff_stream
+        pub head_asks : keeps ≡ false → Below (2 ^ 32) dir → ((length cur'' ≡ 1290) × (1 ≤ diff_stream)) × Passable cur'' diff_stream
         head_asks y b =
             rw (ap (λ (m : Memory). m.cur) (unwritten y))
-            ((o.table, (omega arith, omega arith)), head_passable rules bytes dir cur diff_stream distance st.names b g)
+            ((o.table, omega arith), head_passable rules bytes dir cur diff_stream distance st.names b g)
 
         -- judged, with room for it: on to the walk that keeps it
-        pub walk_on : {past : List ℕ} → keeps ≡ false → room_of (keeping st text'' names' rows'') size added ≡ true → past ≡ head_past cur'' diff_stream
+        pub walk_on : {past : List ℕ} → keeps ≡ false → room_of (keeping st text'' names' rows'') size.length size.rows ≡ true → past ≡ head_past cur'' diff_stream
             → Starts true past text'' names' rows''
         unfolding pick
         walk_on y h c =
             let u = unwritten y in
-            let w = judges size added q in
+            let w = judges size q in
             let t = ap (λ (m : Memory). m.text) u in
             let v = ap (λ (m : Memory). m.rows) u in
             let n = s.entries in
@@ -210,37 +212,37 @@ module _ (rules : Rules) (bytes dir cur text names : List ℕ) (rows : Table) (s
               table = v;
               cursors = p;
               whole = λ z. w.whole;
-              room = λ z. sym (room_same bytes dir cur text names rows st (draft_of name) size added (sym w.bytes) (sym w.rows)) ∙ rw (t, v, n) at h;
+              room = λ z. sym (room_same bytes dir cur text names rows st (draft_of name) size.length size.rows (sym w.bytes) (sym w.rows)) ∙ rw (t, v, n) at h;
               length_cursors = ap length p ∙ l ∙ sym o.table;
               length_text = ap length t;
               length_entries = ap length n;
             }
 
         module _ (y : keeps ≡ true) where
-          has : Room bytes dir cur text names rows st size added
+          has : Room bytes dir cur text names rows st size.length size.rows
           has =
-              let w = judges size added q in
-              has_room bytes dir cur text names rows st size added
-              (room_same bytes dir cur text names rows st (draft_of name) size added (sym w.bytes) (sym w.rows) ∙ s.room y)
+              let w = judges size q in
+              has_room bytes dir cur text names rows st size.length size.rows
+              (room_same bytes dir cur text names rows st (draft_of name) size.length size.rows (sym w.bytes) (sym w.rows) ∙ s.room y)
 
           -- what the entry asks for
-          pub entry_asks : (entry_size * st.names + entry_size ≤ length names') × ((st.names + 1 < 2 ^ 32) × ((st.text + size + 1 < 2 ^ 32) × (st.rows + added < 2 ^ 32)))
-          entry_asks = let b = bounds size added q in rw s.entries (enter_asks bytes dir cur text names rows st size added k has b.0 b.1)
+          pub entry_asks : (entry_size * st.names + entry_size ≤ length names') × ((st.names + 1 < 2 ^ 32) × ((st.text + size.length + 1 < 2 ^ 32) × (st.rows + size.rows < 2 ^ 32)))
+          entry_asks = let b = bounds size q in rw s.entries (enter_asks bytes dir cur text names rows st size.length size.rows k has b.0 b.1)
 
           put : memory text'' rows'' cur'' ≡ put_name st.text st.rows text rows (draft_of name)
           put = left ∙ pick_true _ _ y ∙ rw (s.texts, s.table, here y s.cursors)
 
           -- kept
-          pub walk_kept : {z : Reading} {names'' : List ℕ} → z ≡ keeping_name st size added → names'' ≡ written names' (entry_size * st.names) (entry_of st size st.rows added distance)
+          pub walk_kept : {z : Reading} {names'' : List ℕ} → z ≡ keeping_name st size.length size.rows → names'' ≡ written names' (entry_size * st.names) (entry_of st size.length st.rows size.rows distance)
               → outcome z.answer cur'' (keeping z.state text'' names'' rows'') ≡ diff_of (source rules bytes dir cur) (keeping st text names rows) distance (earlier text rows first count)
           unfolding diff_of named_of put_name
           walk_kept {z} {names''} e n =
-              let w = judges size added q in
+              let w = judges size q in
               let D = draft_of name in
               rw w.whole
-              (keep_kept rules bytes dir cur text names rows st D st.rows D.count distance size added (sym w.bytes) (sym w.rows)
-              (room_same bytes dir cur text names rows st D size added (sym w.bytes) (sym w.rows) ∙ s.room y) e
+              (keep_kept rules bytes dir cur text names rows st D st.rows D.count distance size.length size.rows (sym w.bytes) (sym w.rows)
+              (room_same bytes dir cur text names rows st D size.length size.rows (sym w.bytes) (sym w.rows) ∙ s.room y) e
               (ap (λ (m : Memory). m.cur) put) (ap (λ (m : Memory). m.text) put)
-              (n ∙ ap (λ (l : List ℕ). written l (entry_size * st.names) (entry_of st size st.rows added distance)) s.entries
-              ∙ ap (λ (x : ℕ). written names (entry_size * st.names) (entry_of st size st.rows x distance)) (sym w.rows))
+              (n ∙ ap (λ (l : List ℕ). written l (entry_size * st.names) (entry_of st size.length st.rows size.rows distance)) s.entries
+              ∙ ap (λ (x : ℕ). written names (entry_size * st.names) (entry_of st size.length st.rows x distance)) (sym w.rows))
               (ap (λ (m : Memory). m.rows) put))

@@ -14,9 +14,9 @@ ghost use Rattle.heads.specs.Headed.{Headed};
 ghost use Rattle.naming.specs.Naming.{diff_of_lent};
 ghost use Rattle.block.specs.Streams.{diff_stream};
 
-use block::{Setting, State, stream};
+use block::{Setting, State, Stream};
 use entries::Reading;
-use names::Judged;
+use refusals::Reason;
 use spans::Distance;
 
 // Rule 4, over the rows of an earlier name that was judged: walked to judge it, and once more to keep it.
@@ -42,28 +42,31 @@ pub fn named(
     ensures { leaves result cursors.new text.new entries.new rows.new ≡ diff_of_lent set bytes.now dir.now cursors.old text.old entries.old rows.old state distance.0 first count }
 {
     let mut keeping = false;
+    // Not a `for`: it has two turns at most, and returns in either.
     loop {
-        match walks::walk(
+        let walked = walks::walk(
             set, keeping, known, bytes, dir, cursors, text, rows, first, count, state.text,
             state.rows,
-        ) {
-            Judged::Refused(r) => {
-                return outcomes::refuse(r, state);
-            }
-            Judged::Name {
-                rows: added,
-                length: size,
-            } => {
-                if keeping {
-                    return entries::enter(entries, state, size, added, state.rows, added, distance);
-                }
-                if entries::has_room(state, text, entries, rows, size, added) {
-                    heads::move_head(cursors, stream::DIFF);
-                    keeping = true;
-                } else {
-                    return outcomes::refuse(9, state);
-                }
-            }
+        );
+        let size = match walked {
+            Ok(size) => size,
+            Err(r) => return outcomes::refuse(r, state),
+        };
+        if keeping {
+            return entries::enter(
+                entries,
+                state,
+                size.length,
+                size.rows,
+                state.rows,
+                size.rows,
+                distance,
+            );
         }
+        if !entries::has_room(state, text, entries, rows, size.length, size.rows) {
+            return outcomes::refuse(Reason::NoRoom, state);
+        }
+        heads::move_head(cursors, Stream::Diff);
+        keeping = true;
     }
 }

@@ -3,8 +3,7 @@ use Prim.Native.Nat.{ℕ}
 use mathlib.Core.Path.{◌≡◌, ap, ◌∙◌}
 use mathlib.Core.List.{List}
 use lib.ListN.{length}
-use Rattle.block.specs.declared.Opened.{Opened}
-use Rattle.block.specs.Block.{opening, open_of}
+use Rattle.block.specs.Block.{Opened, opening, open_of}
 use Rattle.opencalls.specs.Calls.{opened_number, opens, opened_state, opens_of, open_call}
 
 same_opens : {n n' : ℕ} (c : List ℕ) {s s' : List ℕ} → n ≡ n' → s ≡ s' → opens n c s ≡ opens n' c s'

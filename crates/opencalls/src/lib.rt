@@ -3,9 +3,9 @@
 #![tactic(auto)]
 
 ghost use Rattle.std.specs.Prelude.{◌≡◌};
-ghost use Rattle.opencalls.specs.Calls.{opens_left, open_call_lent};
+ghost use Rattle.opencalls.specs.Calls.{opens, open_call};
 
-use block::{Block, Opened};
+use block::Block;
 
 pub fn open(
     bytes: &[u8],
@@ -14,14 +14,14 @@ pub fn open(
     cursors: &mut [u32],
     state: &mut [u32; 4],
 ) -> u64
-    ensures { opens_left result cursors.new state.new ≡ open_call_lent bytes.now directory.now count cursors.old state.old }
+    ensures { opens result cursors.new state.new ≡ open_call bytes.now directory.now count cursors.old state.old }
 {
     let b = Block { count: count };
     match b.open(bytes, directory, cursors) {
-        Opened::Fresh(s) => {
+        Ok(s) => {
             *state = codes::state_out(s);
             codes::pack(0, 0)
         }
-        Opened::Refused(r) => codes::refused(r),
+        Err(r) => codes::refused(r),
     }
 }

@@ -1,5 +1,7 @@
 -- A name with room for it, and one without: what the code leaves is what the definitions say.
 use Prim.Native.Nat.{ℕ, ◌*◌}
+use Rattle.refusals.specs.declared.Reason.{Reason}
+use Rattle.refusals.specs.declared.Reason.TheVariants as reason
 use mathlib.Core.Path.{◌≡◌, sym, ◌∙◌}
 use mathlib.Core.Bool.{true, false}
 use mathlib.Core.List.{List, [], ◌∷◌, ◌++◌}
@@ -23,16 +25,16 @@ module _ (bytes dir cur text names : List ℕ) (rows : Table) (st : State) where
   room_same d size added e f = rw (e, f)
 
 module _ (rules : Rules) (bytes dir cur text names : List ℕ) (rows : Table) (st : State) where
-  pub refused_at_law : {r : Reading} (n : ℕ) → r ≡ refusing st n
+  pub refused_at_law : {r : Reading} (n : Reason) → r ≡ refusing st n
       → outcome r.answer cur (keeping r.state text names rows) ≡ at_name (source rules bytes dir cur) (keeping st text names rows) n
   unfolding refusing at_name
   refused_at_law n q = rw q
 
   module _ (d : Draft) (first many distance size added : ℕ) (e : size ≡ length d.text) (f : added ≡ d.count) where
-    pub keep_refused : {r : Reading} → room_of (keeping st text names rows) size added ≡ false → r ≡ refusing st 9
+    pub keep_refused : {r : Reading} → room_of (keeping st text names rows) size added ≡ false → r ≡ refusing st reason.NoRoom
         → outcome r.answer cur (keeping r.state text names rows) ≡ keep_of (source rules bytes dir cur) (keeping st text names rows) d first many distance
     unfolding keep_of
-    keep_refused h q = left _ _ (sym (room_same bytes dir cur text names rows st d size added e f) ∙ h) (refused_at_law 9 q)
+    keep_refused h q = left _ _ (sym (room_same bytes dir cur text names rows st d size added e f) ∙ h) (refused_at_law reason.NoRoom q)
 
     pub keep_kept : {r : Reading} {cur' text' names' : List ℕ} {rows' : Table} → room_of (keeping st text names rows) size added ≡ true → r ≡ keeping_name st size added
         → cur' ≡ d.cur → text' ≡ written text st.text (d.text ++ (10 ∷ [])) → names' ≡ written names (entry_size * st.names) (entry_of st size first many distance)

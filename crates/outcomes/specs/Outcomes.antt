@@ -1,14 +1,14 @@
 -- What a read leaves: its answer, and the state, the tables and the buffers after it.
-use Rattle.std.specs.Prelude.{ℕ, Bool, List}
+use Rattle.std.specs.Prelude.{ℕ, Bool, List, None, Ok, Err}
+use Rattle.refusals.specs.declared.Reason.{Reason}
+use Rattle.entries.specs.Entries.{Answer, reading}
+use Rattle.refusals.specs.declared.Reason.TheVariants as reason
 use Rattle.base.specs.Choice.{pick}
 use Rattle.block.specs.declared.State.{State}
-use Rattle.block.specs.declared.Refusal.TheVariants as refusal
+use Rattle.refusals.specs.declared.Refusal.TheVariants as refusal
 use Rattle.tables.specs.Tables.{Kept, keeping, rows_left}
 use Rattle.sources.specs.Source.{Source}
 use Rattle.entries.specs.declared.Reading.{Reading}
-use Rattle.entries.specs.declared.Answer.{Answer}
-use Rattle.entries.specs.declared.Answer.TheVariants as answer
-use Rattle.entries.specs.Entries.{reading}
 use Rattle.base.specs.Lent.{Buffer}
 
 -- what a read leaves: its answer, the cursors, and what is kept
@@ -21,22 +21,22 @@ abbrev pub outcome : Answer → List ℕ → Kept → Outcome
 outcome a c k = record { answer = a; cur = c; kept = k }
 
 -- a refusal that carries the name being read, with the state after it
-unfoldable pub refusing : State → ℕ → Reading
-refusing s r = reading (answer.Refused (refusal.At r s.names)) s
+unfoldable pub refusing : State → Reason → Reading
+refusing s r = reading (Err (refusal.At r s.names)) s
 
 -- with all names read: "done", or 10 while a cursor is short of its end
 unfoldable pub finishing : State → Bool → Reading
-finishing s ended = reading (pick ended answer.Done (answer.Refused (refusal.Plain 10))) s
+finishing s ended = reading (pick ended (Ok None) (Err (refusal.Plain reason.Unread))) s
 
-unfoldable pub refusing_plain : State → ℕ → Reading
-refusing_plain s r = reading (answer.Refused (refusal.Plain r)) s
+unfoldable pub refusing_plain : State → Reason → Reading
+refusing_plain s r = reading (Err (refusal.Plain r)) s
 
 -- a refusal leaves state and buffers untouched; some carry no name, the others the number of the name being read
-unfoldable pub plain : Source → Kept → ℕ → Outcome
-plain s m r = outcome (answer.Refused (refusal.Plain r)) s.cur m
+unfoldable pub plain : Source → Kept → Reason → Outcome
+plain s m r = outcome (Err (refusal.Plain r)) s.cur m
 
-unfoldable pub at_name : Source → Kept → ℕ → Outcome
-at_name s m r = outcome (answer.Refused (refusal.At r m.state.names)) s.cur m
+unfoldable pub at_name : Source → Kept → Reason → Outcome
+at_name s m r = outcome (Err (refusal.At r m.state.names)) s.cur m
 
 -- what a read leaves
 abbrev pub leaves : Reading → Buffer → Buffer → Buffer → Buffer → Outcome

@@ -4,25 +4,26 @@
 ghost use Rattle.std.specs.Prelude.{◌≡◌};
 ghost use Rattle.outcomes.specs.Outcomes.{refusing, refusing_plain};
 
-use block::{Refusal, State};
-use entries::{Answer, Reading};
+use block::State;
+use entries::Reading;
+use refusals::{Reason, Refusal};
 
 // A refusal that carries the number of the name being read.
-pub fn refuse(number: u32, state: State) -> Reading
-    ensures { result ≡ refusing state number }
+pub fn refuse(reason: Reason, state: State) -> Reading
+    ensures { result ≡ refusing state reason }
 {
     Reading {
-        answer: Answer::Refused(Refusal::At(number, state.names)),
-        state: state,
+        answer: Err(Refusal::At(reason, state.names)),
+        state,
     }
 }
 
 // A refusal that carries no name.
-pub fn refuse_plain(number: u32, state: State) -> Reading
-    ensures { result ≡ refusing_plain state number }
+pub fn refuse_plain(reason: Reason, state: State) -> Reading
+    ensures { result ≡ refusing_plain state reason }
 {
     Reading {
-        answer: Answer::Refused(Refusal::Plain(number)),
-        state: state,
+        answer: Err(Refusal::Plain(reason)),
+        state,
     }
 }

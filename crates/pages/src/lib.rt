@@ -7,20 +7,12 @@ ghost use Rattle.base.specs.Memory.{part};
 ghost use Rattle.digits.specs.Digits.{printed};
 ghost use Rattle.pages.specs.Page.{page, said, HasRoom};
 
-pub fn put_part(out: &mut [u8], at: usize, name: &[u8], from: usize, to: usize) -> usize
-    requires from_le_to { (from ≤ to) × (to ≤ length name.now) }
-    requires has_room { HasRoom (part name.now from to) (page out.old at) }
-    ensures { page out.new result ≡ said (part name.now from to) (page out.old at) }
-{
-    base::copy_at(name, from, to, out, at);
-    at + (to - from)
-}
-
 pub fn put(out: &mut [u8], at: usize, text: &[u8]) -> usize
     requires { HasRoom text.now (page out.old at) }
     ensures { page out.new result ≡ said text.now (page out.old at) }
 {
-    put_part(out, at, text, 0, text.len())
+    base::put_all(out, at, text);
+    at + text.len()
 }
 
 pub fn put_number(out: &mut [u8], at: usize, n: u32) -> usize

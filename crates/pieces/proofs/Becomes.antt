@@ -10,8 +10,9 @@ use lib.ListN.{length, get_or}
 use Rattle.base.specs.Choice.{pick}
 use Rattle.base.proofs.Choice.{by_test, pick_true, pick_false, never}
 use Rattle.digits.specs.Digits.{is_digit}
-use Rattle.classes.specs.Classes.{digit_class, class_of}
-use Rattle.classes.proofs.Laws.{class_digit, digit_class_law}
+use Rattle.classes.specs.declared.Class.TheVariants.{Digit}
+use Rattle.classes.specs.Classes.{class_of}
+use Rattle.classes.proofs.Laws.{class_digit, digit_class_law, same_of, same_not}
 use Rattle.splitting.specs.Split.{cut_at}
 use Rattle.splitting.proofs.Runs.{cut_last, cut_run}
 use Rattle.splitting.proofs.Rule.{rule}
@@ -27,7 +28,7 @@ module _ (s : List ℕ) (p at : ℕ) (h : at < length s) where
   a_number : (p ≡ 127 → ⊥) → is_digit (get_or s at 0) ≡ true → piece_at s p at ≡ number_piece s at (cut_at s p at)
   unfolding piece_at
   a_number f d =
-      pick_false _ _ (ne_eqb _ _ f) ∙ pick_true _ _ (eq-eqb _ _ (class_digit _ d))
+      pick_false _ _ (ne_eqb _ _ f) ∙ pick_true _ _ (same_of _ _ (class_digit _ d))
       ∙ ap (number_piece s at) (sym (cut_run s at h p f))
 
   at_last : p ≡ 127 → piece_at s p at ≡ text_piece s at (cut_at s p at)
@@ -37,8 +38,8 @@ module _ (s : List ℕ) (p at : ℕ) (h : at < length s) where
   no_digit_law : is_digit (get_or s at 0) ≡ false → (p ≡ 127 → ⊥) → piece_at s p at ≡ text_piece s at (cut_at s p at)
   unfolding piece_at
   no_digit_law d f =
-      let k : class_of (get_or s at 0) ≡ digit_class → ⊥ = λ e. never (sym d ∙ digit_class_law _ e) in
-      pick_false _ _ (ne_eqb _ _ f) ∙ pick_false _ _ (ne_eqb _ _ k) ∙ ap (text_piece s at) (sym (cut_run s at h p f))
+      let k : class_of (get_or s at 0) ≡ Digit → ⊥ = λ e. never (sym d ∙ digit_class_law _ e) in
+      pick_false _ _ (ne_eqb _ _ f) ∙ pick_false _ _ (same_not _ _ k) ∙ ap (text_piece s at) (sym (cut_run s at h p f))
 
   a_text : (p ≡ 127) ⊎ (is_digit (get_or s at 0) ≡ false) → piece_at s p at ≡ text_piece s at (cut_at s p at)
   a_text = ⊎_elim at_last (λ d. by_test (eqb p 127) (λ e. at_last (eqb-true _ _ e)) (λ e. no_digit_law d (eqb-false _ _ e)))

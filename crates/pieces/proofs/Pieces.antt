@@ -7,7 +7,9 @@ use borrow.Author.Tests.{eqb-true, eqb-false}
 use lib.Dec.{eqb}
 use lib.ListN.{length, get_or}
 use Rattle.base.proofs.Choice.{by_test, pick_true, pick_false, pick_either}
-use Rattle.classes.specs.Classes.{digit_class, class_of}
+use Rattle.classes.specs.declared.Class.TheVariants.{Digit}
+use Rattle.classes.specs.Classes.{class_of, same_class}
+use Rattle.classes.proofs.Laws.{same_true}
 use Rattle.tokens.specs.declared.Padded.{Padded}
 use Rattle.pieces.specs.declared.Piece.{Piece}
 use Rattle.pieces.specs.declared.Piece.TheVariants.{String, Char, Digits, Digits0}
@@ -23,7 +25,7 @@ module _ (P : Piece → Type 0) (s : List ℕ) (p at : ℕ) (h : at < length s)
   unfolding text_piece
   text_case = pick_either P (eqb (cut_at s p at) (at + 1)) _ _ char string
 
-  number_case : class_of (get_or s at 0) ≡ digit_class → P (number_piece s at (run_at s at))
+  number_case : class_of (get_or s at 0) ≡ Digit → P (number_piece s at (run_at s at))
   unfolding number_piece
   number_case e = pick_either P (eqb (get_or s at 0) 48) _ _ (digits0 _ (run_number s at h e).0) (digits _)
 
@@ -31,8 +33,8 @@ module _ (P : Piece → Type 0) (s : List ℕ) (p at : ℕ) (h : at < length s)
   unfolding piece_at
   piece_cases = by_test (eqb p 127)
       (λ e. subst P (sym (pick_true _ _ e)) (subst (λ (n : ℕ). P (text_piece s at n)) (cut_last s at h p (eqb-true _ _ e)) text_case))
-      (λ e. subst P (sym (pick_false _ _ e)) (by_test (eqb (class_of (get_or s at 0)) digit_class)
-      (λ d. subst P (sym (pick_true _ _ d)) (number_case (eqb-true _ _ d)))
+      (λ e. subst P (sym (pick_false _ _ e)) (by_test (same_class (class_of (get_or s at 0)) Digit)
+      (λ d. subst P (sym (pick_true _ _ d)) (number_case (same_true _ _ d)))
       (λ d. subst P (sym (pick_false _ _ d)) (subst (λ (n : ℕ). P (text_piece s at n)) (cut_run s at h p (eqb-false _ _ e)) text_case))))
 
 pub piece_within : (s : List ℕ) (p at : ℕ) → at < length s → Within s (piece_at s p at)

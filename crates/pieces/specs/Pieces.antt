@@ -3,7 +3,8 @@ use Rattle.std.specs.Prelude.{ℕ, ◌+◌, ◌-◌, ◌≤◌, ◌<◌, List, e
 use Rattle.base.specs.Choice.{pick}
 use Rattle.base.specs.Memory.{part}
 use Rattle.digits.specs.Digits.{value_of}
-use Rattle.classes.specs.Classes.{digit_class, class_of}
+use Rattle.classes.specs.declared.Class.TheVariants.{Digit}
+use Rattle.classes.specs.Classes.{class_of, same_class}
 use Rattle.pieces.specs.declared.Piece.{Piece}
 use Rattle.pieces.specs.declared.Piece.TheVariants.{String, Char, Digits, Digits0}
 use Rattle.splitting.specs.Split.{run_at}
@@ -23,7 +24,7 @@ number_piece s at end =
 unfoldable pub piece_at : List ℕ → ℕ → ℕ → Piece
 piece_at s p at =
     pick (eqb p 127) (text_piece s at (length s))
-    (pick (eqb (class_of (get_or s at 0)) digit_class) (number_piece s at (run_at s at)) (text_piece s at (run_at s at)))
+    (pick (same_class (class_of (get_or s at 0)) Digit) (number_piece s at (run_at s at)) (text_piece s at (run_at s at)))
 
 -- a token whose bytes, if it is a STRING, lie in the name, and whose width, if it has one, is a byte
 abbrev pub Within : List ℕ → Piece → Type 0

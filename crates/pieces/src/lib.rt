@@ -8,7 +8,7 @@ ghost use Rattle.classes.specs.Classes.{class_table};
 ghost use Rattle.splitting.specs.Split.{cut_of};
 ghost use Rattle.pieces.specs.Pieces.{text_piece, number_piece, piece_at};
 
-use classes::DIGIT;
+use classes::Class;
 use spans::Position;
 use splitting::{Cut, LAST};
 use tokens::Padded;
@@ -52,7 +52,7 @@ pub fn piece_at(table: &[u8; 256], name: &[u8], p: Position, at: usize, cut: Cut
     if p.0 == LAST {
         return text_piece(name, at, cut.end);
     }
-    if classes::class_in(table, name[at]) == DIGIT {
+    if classes::class_in(table, name[at]) == Class::Digit {
         return number_piece(name, at, cut.end, cut.number);
     }
     text_piece(name, at, cut.end)

@@ -1,11 +1,11 @@
 -- From what a read or a whole block leaves to what its export leaves.
 use Prim.Native.Nat.{ℕ}
+use Rattle.entries.specs.Entries.{Answer}
 use mathlib.Core.Path.{◌≡◌, ap, ◌∙◌}
 use mathlib.Core.List.{List}
 use Rattle.block.specs.declared.State.{State}
 use Rattle.numbering.specs.Types.{Rules}
 use Rattle.tables.specs.Tables.{keeping, Table}
-use Rattle.entries.specs.declared.Answer.{Answer}
 use Rattle.outcomes.specs.Outcomes.{Outcome, outcome}
 use Rattle.sources.specs.Source.{source}
 use Rattle.reads.specs.Reads.{read_of}

@@ -1,5 +1,5 @@
 -- What an exported read and an exported whole block leave: the number, the cursors, the buffers and the state.
--- A contract names the call's own buffers: what is left in them (`..Left`) is what the definition gives of what they are lent with (`..Lent`).
+-- Of its buffers a call has the rows as numbers, and the definitions have them as a table: `.._lent` and `.._left` lie between the two.
 use Rattle.std.specs.Prelude.{ℕ, List}
 use Rattle.base.specs.Lent.{Buffer}
 use Rattle.numbering.specs.Types.{Rules}

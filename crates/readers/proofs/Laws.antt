@@ -1,5 +1,6 @@
 -- Laws of the bytes left to a reader: their end, and that the cursors it gives lie among them.
 use Prim.Native.Nat.{ℕ, ◌≤◌, ◌<◌, ◌^◌}
+use Rattle.std.specs.Prelude.{Some}
 use mathlib.Core.Path.{◌≡◌}
 use mathlib.Core.List.{List}
 use mathlib.Core.Logic.{⊎_elim}
@@ -8,10 +9,8 @@ use borrow.Author.Tests.{le-leb, lt-leb}
 use lib.ListN.{length}
 use Rattle.base.proofs.Choice.{pick_true, pick_false}
 use Rattle.base.proofs.Numbers.{lt_or_ge}
+use Rattle.spans.specs.declared.Bytes.{Bytes}
 use Rattle.spans.specs.declared.Cursor.{Cursor}
-use Rattle.spans.specs.declared.NextByte.TheVariants as byte
-use Rattle.spans.specs.declared.NextFour.TheVariants as number
-use Rattle.spans.specs.declared.NextText.TheVariants.{Bytes}
 use Rattle.spans.proofs.Laws.{byte_found, four_found, text_start_law, text_next, text_told}
 use Rattle.readers.specs.Readers.{left_end, byte_of, four_of, text_of}
 
@@ -32,22 +31,22 @@ left_within left =
 
 -- a cursor that a reader gives lies among its bytes, or at their end
 module _ (left : List ℕ) where
-  pub byte_inside : {b : ℕ} {next : Cursor} → byte_of left ≡ byte.Value b next → next.0 ≤ length left
+  pub byte_inside : {b : ℕ} {next : Cursor} → byte_of left ≡ Some (b, next) → next.0 ≤ length left
   unfolding byte_of
   byte_inside {b} {next} e =
       let f = byte_found left 0 (left_end left) e in
       rw f.past (omega (arith, f.room, left_within left))
 
-  pub four_inside : {v : ℕ} {next : Cursor} → four_of left ≡ number.Value v next → next.0 ≤ length left
+  pub four_inside : {v : ℕ} {next : Cursor} → four_of left ≡ Some (v, next) → next.0 ≤ length left
   unfolding four_of
   four_inside {v} {next} e =
       let f = four_found left 0 (left_end left) e in
       rw f.past (omega (arith, f.room, left_within left))
 
   -- those of a text in their order
-  pub text_inside : {start end next : Cursor} → text_of left ≡ Bytes start end next → (start.0 ≤ end.0) × ((end.0 ≤ next.0) × (next.0 ≤ length left))
+  pub text_inside : {t : Bytes} → text_of left ≡ Some t → (t.start.0 ≤ t.end.0) × ((t.end.0 ≤ t.next.0) × (t.next.0 ≤ length left))
   unfolding text_of
-  text_inside {start} {end} {next} e =
+  text_inside {t} e =
       let f = text_told left 0 (left_end left) e in
       let h = f.high in
       let w = left_within left in

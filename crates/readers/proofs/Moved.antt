@@ -1,5 +1,8 @@
 -- What the reader of a part gives, with its cursors moved by the part's start, is what stands at that start in the whole: said once over the move.
 use Prim.Native.Nat.{ℕ, zero, suc, ◌+◌, ◌-◌, ◌≤◌, ◌<◌, ◌^◌}
+use Rattle.spans.specs.Spans.{Next}
+use Rattle.spans.specs.declared.Bytes.{Bytes}
+use Rattle.std.specs.Prelude.{Some, None, Option}
 use mathlib.Core.Path.{◌≡◌, refl, sym, ap, ◌∙◌}
 use mathlib.Core.List.{List}
 use mathlib.Core.Logic.{⊎_elim}
@@ -12,29 +15,23 @@ use Rattle.base.proofs.Choice.{pick_true, pick_false, by_test}
 use Rattle.base.proofs.Memory.{length_part, get_d_part}
 use Rattle.base.proofs.Numbers.{lt_or_ge}
 use Rattle.spans.specs.declared.Cursor.{Cursor}
-use Rattle.spans.specs.declared.NextByte.{NextByte}
-use Rattle.spans.specs.declared.NextByte.TheVariants as byte
-use Rattle.spans.specs.declared.NextFour.{NextFour}
-use Rattle.spans.specs.declared.NextFour.TheVariants as number
-use Rattle.spans.specs.declared.NextText.{NextText}
-use Rattle.spans.specs.declared.NextText.TheVariants.{Bytes, Unended}
 use Rattle.spans.specs.Spans.{cursor, byte_at, four, four_at, zero_from, text_end, text_at}
 use Rattle.spans.proofs.Laws.{byte_short, byte_value, four_short, four_value, text_found, text_none}
 use Rattle.readers.specs.Readers.{left_end, byte_of, four_of, text_of}
 use Rattle.readers.proofs.Laws.{left_all, byte_inside, four_inside, text_inside}
 
 -- an answer with its cursors moved
-abbrev pub byte_moved : ℕ → NextByte → NextByte
-byte_moved at (byte.Value b next) = byte.Value b (cursor (at + next.0))
-byte_moved at byte.Short = byte.Short
+abbrev pub byte_moved : ℕ → Next → Next
+byte_moved at (Some (b, next)) = Some (b, cursor (at + next.0))
+byte_moved at None = None
 
-abbrev pub four_moved : ℕ → NextFour → NextFour
-four_moved at (number.Value v next) = number.Value v (cursor (at + next.0))
-four_moved at number.Short = number.Short
+abbrev pub four_moved : ℕ → Next → Next
+four_moved at (Some (v, next)) = Some (v, cursor (at + next.0))
+four_moved at None = None
 
-abbrev pub text_moved : ℕ → NextText → NextText
-text_moved at (Bytes start end next) = Bytes (cursor (at + start.0)) (cursor (at + end.0)) (cursor (at + next.0))
-text_moved at Unended = Unended
+abbrev pub text_moved : ℕ → Option Bytes → Option Bytes
+text_moved at (Some t) = Some (record { start = cursor (at + t.start.0); end = cursor (at + t.end.0); next = cursor (at + t.next.0) })
+text_moved at None = None
 
 -- the first zero byte of bytes that stand from at on in others
 zero_moved : (bytes left : List ℕ) (at n i : ℕ) → ((j : ℕ) → j < i + n → get_or left j 0 ≡ get_or bytes (at + j) 0) → at + zero_from left i n ≡ zero_from bytes (at + i) n
@@ -102,12 +99,12 @@ module _ (bytes : List ℕ) (at end : ℕ) (low : at ≤ end) (high : end ≤ le
       (lt_or_ge (text_end left 0 (end - at)) (end - at)))
 
   -- moved cursors fit a cursor
-  pub byte_fits : {b : ℕ} {next : Cursor} → byte_of left ≡ byte.Value b next → at + next.0 < 2 ^ 32
+  pub byte_fits : {b : ℕ} {next : Cursor} → byte_of left ≡ Some (b, next) → at + next.0 < 2 ^ 32
   byte_fits e = omega (arith, byte_inside left e, length_part bytes at end low high)
 
-  pub four_fits : {v : ℕ} {next : Cursor} → four_of left ≡ number.Value v next → at + next.0 < 2 ^ 32
+  pub four_fits : {v : ℕ} {next : Cursor} → four_of left ≡ Some (v, next) → at + next.0 < 2 ^ 32
   four_fits e = omega (arith, four_inside left e, length_part bytes at end low high)
 
   -- and those of a text, in their order
-  pub text_fits : {start stop next : Cursor} → text_of left ≡ Bytes start stop next → (start.0 ≤ stop.0) × ((stop.0 ≤ next.0) × (at + next.0 < 2 ^ 32))
+  pub text_fits : {t : Bytes} → text_of left ≡ Some t → (t.start.0 ≤ t.end.0) × ((t.end.0 ≤ t.next.0) × (at + t.next.0 < 2 ^ 32))
   text_fits e = let i = text_inside left e in (i.0, (i.1.0, omega (arith, i.1.1, length_part bytes at end low high)))

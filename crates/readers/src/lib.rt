@@ -7,7 +7,7 @@ ghost use Rattle.base.specs.Memory.{part};
 ghost use Rattle.spans.specs.Spans.{byte_at, four_at, text_at};
 ghost use Rattle.readers.specs.Readers.{left_end, byte_of, four_of, text_of};
 
-use spans::{Cursor, NextByte, NextFour, NextText};
+use spans::{Bytes, Cursor};
 
 #[derive(Clone, Copy)]
 pub struct SpanReader<'a> {
@@ -25,19 +25,19 @@ fn left_end(left: &[u8]) -> Cursor
 }
 
 // What a reader is asked, on its bytes. Its cursors count from the first of them.
-fn byte_of(left: &[u8]) -> NextByte
+fn byte_of(left: &[u8]) -> Option<(u8, Cursor)>
     ensures { result ≡ byte_of left.now }
 {
     Cursor(0).next_byte(left, left_end(left))
 }
 
-fn four_of(left: &[u8]) -> NextFour
+fn four_of(left: &[u8]) -> Option<(u32, Cursor)>
     ensures { result ≡ four_of left.now }
 {
     Cursor(0).next_four(left, left_end(left))
 }
 
-fn text_of(left: &[u8]) -> NextText
+fn text_of(left: &[u8]) -> Option<Bytes>
     ensures { result ≡ text_of left.now }
 {
     Cursor(0).next_text(left, left_end(left))
@@ -49,38 +49,38 @@ pub fn reader_of<'a>(left: &'a [u8]) -> SpanReader<'a>
     SpanReader { left }
 }
 
-pub fn next_byte<'a>(r: SpanReader<'a>) -> NextByte
+pub fn next_byte<'a>(r: SpanReader<'a>) -> Option<(u8, Cursor)>
     ensures { result ≡ byte_of r.entry.left.now }
 {
     byte_of(r.left)
 }
 
-pub fn next_four<'a>(r: SpanReader<'a>) -> NextFour
+pub fn next_four<'a>(r: SpanReader<'a>) -> Option<(u32, Cursor)>
     ensures { result ≡ four_of r.entry.left.now }
 {
     four_of(r.left)
 }
 
-pub fn text_to_zero<'a>(r: SpanReader<'a>) -> NextText
+pub fn text_to_zero<'a>(r: SpanReader<'a>) -> Option<Bytes>
     ensures { result ≡ text_of r.entry.left.now }
 {
     text_of(r.left)
 }
 
 // A reader is made and asked once.
-fn first_byte(left: &[u8]) -> NextByte
+fn first_byte(left: &[u8]) -> Option<(u8, Cursor)>
     ensures { result ≡ byte_of left.now }
 {
     next_byte(reader_of(left))
 }
 
-fn first_four(left: &[u8]) -> NextFour
+fn first_four(left: &[u8]) -> Option<(u32, Cursor)>
     ensures { result ≡ four_of left.now }
 {
     next_four(reader_of(left))
 }
 
-fn first_text(left: &[u8]) -> NextText
+fn first_text(left: &[u8]) -> Option<Bytes>
     ensures { result ≡ text_of left.now }
 {
     text_to_zero(reader_of(left))
@@ -96,40 +96,30 @@ fn left_of(bytes: &[u8], at: Cursor, end: Cursor) -> &[u8]
     &bytes[from..to]
 }
 
-pub fn byte_in(bytes: &[u8], at: Cursor, end: Cursor) -> NextByte
+pub fn byte_in(bytes: &[u8], at: Cursor, end: Cursor) -> Option<(u8, Cursor)>
     requires { (at.0 ≤ end.0) × (end.0 ≤ length bytes.now) }
     ensures { result ≡ byte_at bytes.now at.0 end.0 }
 {
-    match first_byte(left_of(bytes, at, end)) {
-        NextByte::Value(b, next) => NextByte::Value(b, Cursor(at.0 + next.0)),
-        NextByte::Short => NextByte::Short,
-    }
+    let (b, next) = first_byte(left_of(bytes, at, end))?;
+    Some((b, Cursor(at.0 + next.0)))
 }
 
-pub fn four_in(bytes: &[u8], at: Cursor, end: Cursor) -> NextFour
+pub fn four_in(bytes: &[u8], at: Cursor, end: Cursor) -> Option<(u32, Cursor)>
     requires { (at.0 ≤ end.0) × (end.0 ≤ length bytes.now) }
     ensures { result ≡ four_at bytes.now at.0 end.0 }
 {
-    match first_four(left_of(bytes, at, end)) {
-        NextFour::Value(v, next) => NextFour::Value(v, Cursor(at.0 + next.0)),
-        NextFour::Short => NextFour::Short,
-    }
+    let (v, next) = first_four(left_of(bytes, at, end))?;
+    Some((v, Cursor(at.0 + next.0)))
 }
 
-pub fn text_in(bytes: &[u8], at: Cursor, end: Cursor) -> NextText
+pub fn text_in(bytes: &[u8], at: Cursor, end: Cursor) -> Option<Bytes>
     requires { (at.0 ≤ end.0) × (end.0 ≤ length bytes.now) }
     ensures { result ≡ text_at bytes.now at.0 end.0 }
 {
-    match first_text(left_of(bytes, at, end)) {
-        NextText::Bytes {
-            start,
-            end: zero,
-            next,
-        } => NextText::Bytes {
-            start: Cursor(at.0 + start.0),
-            end: Cursor(at.0 + zero.0),
-            next: Cursor(at.0 + next.0),
-        },
-        NextText::Unended => NextText::Unended,
-    }
+    let text = first_text(left_of(bytes, at, end))?;
+    Some(Bytes {
+        start: Cursor(at.0 + text.start.0),
+        end: Cursor(at.0 + text.end.0),
+        next: Cursor(at.0 + text.next.0),
+    })
 }

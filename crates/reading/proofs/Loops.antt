@@ -1,17 +1,19 @@
 -- The public calls, way by way.
 use Prim.Native.Nat.{ℕ, ◌+◌, ◌-◌, ◌<◌}
+use Rattle.block.specs.Block.{Opened, opening, open_of, sound, all_inside, verdict, verdict_of}
+use Rattle.std.specs.Prelude.{Ok, Err}
+use Rattle.refusals.specs.declared.Reason.{Reason}
+use Rattle.refusals.specs.declared.Reason.TheVariants as reason
 use mathlib.Core.Path.{◌≡◌, sym, ap, ◌∙◌}
 use mathlib.Core.Bool.{Bool, true, false}
 use mathlib.Core.List.{List}
+use mathlib.Core.Logic.{◌⊎◌, inl, inr, ⊎_elim}
 use native.Mathlib.Omega.{arith}
 use lib.ListN.{length}
 use Rattle.base.proofs.Choice.{took, left, by_test, never}
 use Rattle.block.specs.declared.State.{State}
-use Rattle.block.specs.declared.Opened.{Opened}
-use Rattle.block.specs.declared.Opened.TheVariants as opened
-use Rattle.block.specs.declared.Refusal.{Refusal}
-use Rattle.block.specs.declared.Verdict.TheVariants.{Unsound, Outside, Inside}
-use Rattle.block.specs.Block.{opening, open_of, verdict_of}
+use Rattle.refusals.specs.declared.Refusal.{Refusal}
+use Rattle.base.specs.Choice.{pick}
 use Rattle.block.specs.Open.{Open}
 use Rattle.block.proofs.Laws.{judged_open, accepted, accepted_open, verdict_unsound, verdict_outside, verdict_inside}
 use Rattle.numbering.specs.Types.{Rules}
@@ -22,7 +24,6 @@ use Rattle.kept.proofs.Laws.{counted, fresh_counted}
 use Rattle.sources.specs.Source.{source}
 use Rattle.earlier.specs.Fits.{Known}
 use Rattle.entries.specs.declared.Reading.{Reading}
-use Rattle.entries.specs.declared.Answer.TheVariants as answer
 use Rattle.outcomes.specs.Outcomes.{Outcome, outcome, refusing_plain, plain}
 use Rattle.inner.specs.Next.{next_of}
 use Rattle.reads.specs.Reads.{read_of, fresh, reads_from}
@@ -33,33 +34,50 @@ use Rattle.reading.specs.Blocks.{opened_of, block_of}
 pub unknown : (m : Kept) {b : Bool} → b ≡ false → Known b m
 unknown m e q = absurd (never (sym e ∙ q))
 
+-- what a block is refused for
+refuses_by : (a b : Bool) {n : Reason} → verdict a b ≡ Err n → (n ≡ reason.Unsound) ⊎ (n ≡ reason.Outside)
+unfolding pick
+refuses_by true true e = cc
+refuses_by true false e = inr (cc)
+refuses_by false b e = inl (cc)
+
 -- the public read
 module _ (rules : Rules) (bytes dir cur text names : List ℕ) (rows : Table) (st : State) where
-  plain_is : {r : Reading} (n : ℕ) → r ≡ refusing_plain st n
+  plain_is : {r : Reading} (n : Reason) → r ≡ refusing_plain st n
       → outcome r.answer cur (keeping r.state text names rows) ≡ plain (source rules bytes dir cur) (keeping st text names rows) n
   unfolding refusing_plain plain
   plain_is n q = rw q
 
-  pub read_unsound : {r : Reading} → verdict_of (length bytes) dir cur ≡ Unsound → r ≡ refusing_plain st 1
+  pub read_unsound : {r : Reading} → verdict_of (length bytes) dir cur ≡ Err reason.Unsound → r ≡ refusing_plain st reason.Unsound
       → outcome r.answer cur (keeping r.state text names rows) ≡ read_of (source rules bytes dir cur) (keeping st text names rows)
   unfolding read_of
-  read_unsound v q = left _ _ (verdict_unsound (length bytes) dir cur v) (plain_is 1 q)
+  read_unsound v q = left _ _ (verdict_unsound (length bytes) dir cur v) (plain_is reason.Unsound q)
 
-  pub read_outside : {r : Reading} → verdict_of (length bytes) dir cur ≡ Outside → r ≡ refusing_plain st 13
+  pub read_outside : {r : Reading} → verdict_of (length bytes) dir cur ≡ Err reason.Outside → r ≡ refusing_plain st reason.Outside
       → outcome r.answer cur (keeping r.state text names rows) ≡ read_of (source rules bytes dir cur) (keeping st text names rows)
   unfolding read_of
   read_outside v q =
       let w = verdict_outside (length bytes) dir cur v in
       took _ _ w.0
       (by_test (counts (keeping st text names rows))
-      (λ a. took _ _ a (left _ _ w.1 (plain_is 13 q)))
-      (λ a. left _ _ a (plain_is 13 q)))
+      (λ a. took _ _ a (left _ _ w.1 (plain_is reason.Outside q)))
+      (λ a. left _ _ a (plain_is reason.Outside q)))
 
-  module _ (v : verdict_of (length bytes) dir cur ≡ Inside) where
-    pub read_miscounted : {r : Reading} → counts (keeping st text names rows) ≡ false → r ≡ refusing_plain st 13
+  -- and these are the reasons that there are
+  pub read_refused : {r : Reading} {n : Reason} → verdict_of (length bytes) dir cur ≡ Err n → r ≡ refusing_plain st n
+      → outcome r.answer cur (keeping r.state text names rows) ≡ read_of (source rules bytes dir cur) (keeping st text names rows)
+  unfolding verdict_of
+  read_refused v q =
+      ⊎_elim
+      (λ w. read_unsound (rw w at v) (rw w at q))
+      (λ w. read_outside (rw w at v) (rw w at q))
+      (refuses_by (sound (length bytes) dir cur) (all_inside dir cur) v)
+
+  module _ (v : verdict_of (length bytes) dir cur ≡ Ok tt) where
+    pub read_miscounted : {r : Reading} → counts (keeping st text names rows) ≡ false → r ≡ refusing_plain st reason.Outside
         → outcome r.answer cur (keeping r.state text names rows) ≡ read_of (source rules bytes dir cur) (keeping st text names rows)
     unfolding read_of
-    read_miscounted h q = took _ _ (verdict_inside (length bytes) dir cur v).0 (left _ _ h (plain_is 13 q))
+    read_miscounted h q = took _ _ (verdict_inside (length bytes) dir cur v).0 (left _ _ h (plain_is reason.Outside q))
 
     pub read_judged : counts (keeping st text names rows) ≡ true → Open bytes dir cur × Counted (keeping st text names rows)
     read_judged h =
@@ -72,12 +90,12 @@ module _ (rules : Rules) (bytes dir cur text names : List ℕ) (rows : Table) (s
 
 -- a whole block
 module _ (rules : Rules) (bytes dir cur text names : List ℕ) (rows : Table) (st : State) (count : ℕ) where
-  pub block_refused : {r : Refusal} {cur' : List ℕ} {a : Opened} → opening a cur' ≡ open_of (length bytes) dir count cur → a ≡ opened.Refused r
-      → outcome (answer.Refused r) cur' (keeping st text names rows) ≡ block_of (source rules bytes dir cur) (keeping st text names rows) count
+  pub block_refused : {r : Refusal} {cur' : List ℕ} {a : Opened} → opening a cur' ≡ open_of (length bytes) dir count cur → a ≡ Err r
+      → outcome (Err r) cur' (keeping st text names rows) ≡ block_of (source rules bytes dir cur) (keeping st text names rows) count
   unfolding block_of opened_of
   block_refused q e = rw (← q, e)
 
-  pub block_starts : {s : State} {cur' : List ℕ} {a : Opened} → opening a cur' ≡ open_of (length bytes) dir count cur → a ≡ opened.Fresh s
+  pub block_starts : {s : State} {cur' : List ℕ} {a : Opened} → opening a cur' ≡ open_of (length bytes) dir count cur → a ≡ Ok s
       → Open bytes dir cur' × (Counted (keeping s text names rows) × Known true (keeping s text names rows))
   block_starts {s} {cur'} q e =
       let p = sym q ∙ ap (λ (x : Opened). opening x cur') e in
@@ -90,7 +108,7 @@ module _ (rules : Rules) (bytes dir cur text names : List ℕ) (rows : Table) (s
         ),
       )
 
-  pub block_is : {s : State} {cur' : List ℕ} {a : Opened} {o : Outcome} → opening a cur' ≡ open_of (length bytes) dir count cur → a ≡ opened.Fresh s
+  pub block_is : {s : State} {cur' : List ℕ} {a : Opened} {o : Outcome} → opening a cur' ≡ open_of (length bytes) dir count cur → a ≡ Ok s
       → o ≡ reads_from rules bytes dir (s.count - s.names + 1) (fresh cur' (keeping s text names rows))
       → o ≡ block_of (source rules bytes dir cur) (keeping st text names rows) count
   unfolding block_of opened_of

@@ -9,9 +9,10 @@ ghost use Rattle.outcomes.specs.Outcomes.{leaves};
 ghost use Rattle.reads.specs.Reads.{read_of};
 ghost use Rattle.reading.specs.Blocks.{block_of};
 
-use block::{Block, Opened, Setting, State, Verdict};
-use entries::{Answer, Reading};
+use block::{Block, Setting, State};
+use entries::Reading;
 use kept::judgement;
+use refusals::Reason;
 
 // One name a call.
 pub fn read(
@@ -27,15 +28,14 @@ pub fn read(
     ensures { leaves result cursors.new text.new entries.new rows.new ≡ read_of (block_lent set bytes.now dir.now cursors.old) (tables_lent state text.old entries.old rows.old) }
 {
     match block::judge(bytes, dir, cursors) {
-        Verdict::Unsound => outcomes::refuse_plain(1, state),
-        Verdict::Outside => outcomes::refuse_plain(13, state),
-        Verdict::Inside => {
+        Ok(()) => {
             if judgement::counts(state, text, entries, rows) {
                 reads::reads(set, false, bytes, dir, cursors, text, entries, rows, state)
             } else {
-                outcomes::refuse_plain(13, state)
+                outcomes::refuse_plain(Reason::Outside, state)
             }
         }
+        Err(r) => outcomes::refuse_plain(r, state),
     }
 }
 
@@ -53,14 +53,12 @@ pub fn read_block(
 ) -> Reading
     ensures { leaves result cursors.new text.new entries.new rows.new ≡ block_of (block_lent set bytes.now dir.now cursors.old) (tables_lent state text.old entries.old rows.old) count }
 {
-    let b = Block { count: count };
+    let b = Block { count };
     match b.open(bytes, dir, cursors) {
-        Opened::Fresh(start) => {
-            reads::reads(set, true, bytes, dir, cursors, text, entries, rows, start)
-        }
-        Opened::Refused(r) => Reading {
-            answer: Answer::Refused(r),
-            state: state,
+        Ok(start) => reads::reads(set, true, bytes, dir, cursors, text, entries, rows, start),
+        Err(r) => Reading {
+            answer: Err(r),
+            state,
         },
     }
 }

@@ -1,5 +1,11 @@
 -- The rows of a name that is read point inside and are spelt, whatever the bytes are: what is kept need not be judged again.
 use Prim.Native.Nat.{ℕ, zero, suc, ◌+◌, ◌-◌, ◌^◌, ◌≤◌, ◌<◌}
+use Rattle.spans.specs.Spans.{Next, text_end, text_at}
+use Rattle.spans.specs.declared.Bytes.{Bytes}
+use Rattle.values.specs.Values.{Step, string_step, char_step, digits_step, padded_in, padded_step, digits0_step}
+use Rattle.tokens.specs.declared.Padded.{Padded}
+use Rattle.std.specs.Prelude.{Some, None, Ok, Err, Option}
+use Rattle.refusals.specs.declared.Reason.TheVariants as reason
 use mathlib.Core.Path.{◌≡◌, refl, sym, ap, ◌∙◌, subst}
 use mathlib.Core.Bool.{true, false}
 use mathlib.Core.Logic.{⊎_elim}
@@ -19,12 +25,6 @@ use Rattle.classes.specs.Classes.{all_allowed}
 use Rattle.digits.specs.Digits.{fits_width}
 use Rattle.digits.proofs.Laws.{length_padded}
 use Rattle.spans.specs.declared.Cursor.{Cursor}
-use Rattle.spans.specs.declared.NextByte.{NextByte}
-use Rattle.spans.specs.declared.NextByte.TheVariants as byte
-use Rattle.spans.specs.declared.NextFour.{NextFour}
-use Rattle.spans.specs.declared.NextFour.TheVariants as four
-use Rattle.spans.specs.declared.NextText.{NextText}
-use Rattle.spans.specs.Spans.{text_end, text_at}
 use Rattle.spans.proofs.Laws.{end_found}
 use Rattle.block.specs.Block.{span_of, end_of, cursor_of}
 use Rattle.block.specs.Open.{Open}
@@ -41,12 +41,7 @@ use Rattle.tables.specs.Tables.{row_at}
 use Rattle.kept.specs.Judgement.{row_kind}
 use Rattle.kept.specs.Inside.{RowInside}
 use Rattle.kept.proofs.Laws.{kind_inside, row_more}
-use Rattle.values.specs.declared.Step.{Step}
-use Rattle.values.specs.declared.Step.TheVariants as step
 use Rattle.sources.specs.Source.{Source, Earlier, byte_in, four_in, text_in}
-use Rattle.values.specs.declared.NextPadded.{NextPadded}
-use Rattle.values.specs.declared.NextPadded.TheVariants as padded
-use Rattle.values.specs.Values.{string_step, char_step, digits_step, padded_in, padded_step, digits0_step}
 use Rattle.sums.specs.Sums.{delta_step, delta0_step}
 use Rattle.repeats.specs.Repeats.{token_of, has_row, row_here, has_kind, delta_at, delta0_at, match_at}
 use Rattle.steps.specs.Steps.{value_step, typed_step, step_at}
@@ -80,9 +75,9 @@ whole_kind bytes text (Digits0 p) at w h = both_of (le-leb p.width 254 h) w
 
 -- every token that a step gives is whole
 abbrev Fine : Source → Earlier → Step → Type 0
-Fine s e (step.Got t c) = Whole s.bytes e.text t
-Fine s e step.End = Unit
-Fine s e (step.Refused n) = Unit
+Fine s e (Ok (Some (t, c))) = Whole s.bytes e.text t
+Fine s e (Ok None) = Unit
+Fine s e (Err n) = Unit
 
 fresh_whole : (bytes text : List ℕ) (a z : ℕ) → a ≤ z → z ≤ length bytes → Whole bytes text (String (record { kept = false; start = a; end = z }))
 unfolding pick
@@ -93,34 +88,34 @@ unfolding pick
 kept_whole bytes text a z h l = (h, l)
 
 module _ (s : Source) (e : Earlier) where
-  char_fine : (v : NextByte) → Fine s e (char_step v)
+  char_fine : (v : Next) → Fine s e (char_step v)
   unfolding char_step
-  char_fine (byte.Value b c) = tt
-  char_fine byte.Short = tt
+  char_fine (Some (b, c)) = tt
+  char_fine None = tt
 
-  digits_fine : (v : NextFour) → Fine s e (digits_step v)
+  digits_fine : (v : Next) → Fine s e (digits_step v)
   unfolding digits_step
-  digits_fine (four.Value n c) = tt
-  digits_fine four.Short = tt
+  digits_fine (Some (n, c)) = tt
+  digits_fine None = tt
 
   padded_fine : (n w : ℕ) (c : Cursor) → Fine s e (padded_step n w c)
   unfolding padded_step
   padded_fine n w c = pick_holds (λ (x : Step). Fine s e x) (fits_width n w) _ _ (λ f. f) (λ f. tt)
 
-  digits0_fine : (v : NextPadded) → Fine s e (digits0_step v)
+  digits0_fine : (v : Option (Padded × Cursor)) → Fine s e (digits0_step v)
   unfolding digits0_step
-  digits0_fine (padded.Value x c) = padded_fine x.number x.width c
-  digits0_fine padded.Short = tt
+  digits0_fine (Some (x, c)) = padded_fine x.number x.width c
+  digits0_fine None = tt
 
-  delta_fine : (n : ℕ) (v : NextByte) → Fine s e (delta_step n v)
+  delta_fine : (n : ℕ) (v : Next) → Fine s e (delta_step n v)
   unfolding delta_step
-  delta_fine n (byte.Value d c) = pick_holds (λ (x : Step). Fine s e x) (ltb (n + d) (2 ^ 32)) _ _ (λ h. tt) (λ h. tt)
-  delta_fine n byte.Short = tt
+  delta_fine n (Some (d, c)) = pick_holds (λ (x : Step). Fine s e x) (ltb (n + d) (2 ^ 32)) _ _ (λ h. tt) (λ h. tt)
+  delta_fine n None = tt
 
-  delta0_fine : (n w : ℕ) (v : NextByte) → Fine s e (delta0_step n w v)
+  delta0_fine : (n w : ℕ) (v : Next) → Fine s e (delta0_step n w v)
   unfolding delta0_step
-  delta0_fine n w (byte.Value d c) = pick_holds (λ (x : Step). Fine s e x) (ltb (n + d) (2 ^ 32)) _ _ (λ h. padded_fine (n + d) w c) (λ h. tt)
-  delta0_fine n w byte.Short = tt
+  delta0_fine n w (Some (d, c)) = pick_holds (λ (x : Step). Fine s e x) (ltb (n + d) (2 ^ 32)) _ _ (λ h. padded_fine (n + d) w c) (λ h. tt)
+  delta0_fine n w None = tt
 
   module _ (used p : ℕ) (o : Open s.bytes s.dir s.cur) (rows : Rows used e) (low : 1 ≤ p) (high : p ≤ 128) where
     string_fine : Fine s e (string_step (text_in s p string_stream))
@@ -129,7 +124,7 @@ module _ (s : Source) (e : Earlier) where
         let at = cursor_of s.cur (span_of p string_stream) in
         let end = end_of s.dir (span_of p string_stream) in
         let z = text_end s.bytes at end in
-        pick_holds (λ (x : NextText). Fine s e (string_step x)) (ltb z end) _ _
+        pick_holds (λ (x : Option Bytes). Fine s e (string_step x)) (ltb z end) _ _
         (λ h.
         let l : z < end = ltb-true _ _ h in
         let m : at ≤ z = (end_found s.bytes at end refl l).low in
@@ -170,10 +165,10 @@ module _ (s : Source) (e : Earlier) where
     value_fine c type.End = tt
     value_fine c type.Other = tt
 
-    typed_fine : (v : NextByte) → Fine s e (typed_step s e p v)
+    typed_fine : (v : Next) → Fine s e (typed_step s e p v)
     unfolding typed_step
-    typed_fine (byte.Value b c) = pick_holds (λ (x : Step). Fine s e x) (barred p (type_of s.rules.numbers b)) _ _ (λ h. tt) (λ h. value_fine c (type_of s.rules.numbers b))
-    typed_fine byte.Short = tt
+    typed_fine (Some (b, c)) = pick_holds (λ (x : Step). Fine s e x) (barred p (type_of s.rules.numbers b)) _ _ (λ h. tt) (λ h. value_fine c (type_of s.rules.numbers b))
+    typed_fine None = tt
 
     step_fine : Fine s e (step_at s e p)
     unfolding step_at
@@ -256,16 +251,16 @@ module _ (s : Source) (e : Earlier) (used : ℕ) (o : Open s.bytes s.dir s.cur) 
 
     onward_rowed : (st : Step) → Fine s e st → onward s e used p d st rest ≡ named D → Rowed used D
     unfolding onward
-    onward_rowed (step.Got t c) w q =
+    onward_rowed (Ok (Some (t, c))) w q =
         let g = grown s e used p t c.0 d in
         by_test (printable (bytes_of s.bytes e.text t) (length d.text))
-        (λ y. on g (grown_rowed s e used p t c.0 d w y r) (sym (pick_true (rest g) (refused 8) y) ∙ q))
-        (λ y. absurd (never_named (sym (pick_false (rest g) (refused 8) y) ∙ q)))
-    onward_rowed step.End w q =
+        (λ y. on g (grown_rowed s e used p t c.0 d w y r) (sym (pick_true (rest g) (refused reason.BadName) y) ∙ q))
+        (λ y. absurd (never_named (sym (pick_false (rest g) (refused reason.BadName) y) ∙ q)))
+    onward_rowed (Ok None) w q =
         by_test (eqb (length d.text) 0)
-        (λ y. absurd (never_named (sym (pick_true (refused 8) (named (ended p d)) y) ∙ q)))
-        (λ y. ended_rowed (sym (pick_false (refused 8) (named (ended p d)) y) ∙ q))
-    onward_rowed (step.Refused n) w q = absurd (never_named q)
+        (λ y. absurd (never_named (sym (pick_true (refused reason.BadName) (named (ended p d)) y) ∙ q)))
+        (λ y. ended_rowed (sym (pick_false (refused reason.BadName) (named (ended p d)) y) ∙ q))
+    onward_rowed (Err n) w q = absurd (never_named q)
 
   from_rowed : (f p : ℕ) (d D : Draft) → 1 ≤ p → p + f ≤ 129 → Rowed used d → name_from s e used f p d ≡ named D → Rowed used D
   unfolding name_from

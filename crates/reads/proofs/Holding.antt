@@ -1,5 +1,8 @@
 -- What a read needs holds again after it: the block is open, the counts are judged, what every kept name points to is inside, and its rows are spelt. A read that keeps a name adds one.
 use Prim.Native.Nat.{ℕ, ◌+◌, ◌-◌, ◌*◌, ◌≤◌, ◌<◌}
+use Rattle.distances.specs.Distances.{Head}
+use Rattle.std.specs.Prelude.{Some, None, Ok, Err}
+use Rattle.distances.specs.declared.Reference.TheVariants as reference
 use mathlib.Core.Path.{◌≡◌, refl, sym, ap, ◌∙◌, subst}
 use mathlib.Core.Bool.{true}
 use mathlib.Core.List.{List, [], ◌∷◌, ◌++◌}
@@ -15,7 +18,8 @@ use Rattle.base.proofs.Holding.{holds_written, holds_left}
 use Rattle.base.proofs.Memory.{length_written, length_part}
 use Rattle.base.proofs.Below.{take_written}
 use Rattle.block.specs.declared.State.{State}
-use Rattle.block.specs.declared.Refusal.{Refusal}
+use Rattle.refusals.specs.declared.Reason.{Reason}
+use Rattle.refusals.specs.declared.Reason.TheVariants as reason
 use Rattle.block.specs.Block.{all_at_end}
 use Rattle.block.specs.Open.{Open}
 use Rattle.block.proofs.Laws.{open_sound, open_inside}
@@ -36,9 +40,6 @@ use Rattle.names.specs.Names.{Draft, draft, Named, named, refused, name_of}
 use Rattle.repeating.specs.Repeats.{Spelt, RowsSpelt}
 use Rattle.names.proofs.Frames.{name_bounds, name_open}
 use Rattle.repeating.proofs.Spelling.{rows_spelt_same}
-use Rattle.distances.specs.declared.Head.{Head}
-use Rattle.distances.specs.declared.Head.TheVariants as head
-use Rattle.entries.specs.declared.Answer.TheVariants as answer
 use Rattle.heads.specs.Headed.{Headed}
 use Rattle.outcomes.specs.Outcomes.{Outcome, outcome, plain, at_name}
 use Rattle.outcomes.specs.Keeping.{room_for, kept, keep_of}
@@ -69,13 +70,7 @@ pub record Holds (bytes dir : List ℕ) (m : Kept) (o : Outcome) : Type 0 where
   pub counted : Counted o.kept
   pub fits : AllFit m → AllFit o.kept
   pub spelt : AllFit m → AllSpelt m → AllSpelt o.kept
-  pub more : (n : ℕ) → o.answer ≡ answer.Kept n → More m o
-
-refused_not : {r : Refusal} {n : ℕ} → answer.Refused r ≡ answer.Kept n → ⊥
-refused_not q = let z : ◌≡◌ {A = ℕ} 0 1 = cc in omega arith
-
-done_not : {n : ℕ} → answer.Done ≡ answer.Kept n → ⊥
-done_not q = let z : ◌≡◌ {A = ℕ} 0 1 = cc in omega arith
+  pub more : (n : ℕ) → o.answer ≡ Ok (Some n) → More m o
 
 -- a name's entry
 abbrev entered : State → ℕ → ℕ → ℕ → ℕ → Entry
@@ -174,16 +169,16 @@ module _ (st : State) (text names : List ℕ) (rows : Table) (k : Counted (keepi
       }
 
 module _ (rules : Rules) (bytes dir cur text names : List ℕ) (rows : Table) (st : State) (o : Open bytes dir cur) (k : Counted (keeping st text names rows)) where
-  at_holds : (n : ℕ) → Holds bytes dir (keeping st text names rows) (at_name (source rules bytes dir cur) (keeping st text names rows) n)
+  at_holds : (n : Reason) → Holds bytes dir (keeping st text names rows) (at_name (source rules bytes dir cur) (keeping st text names rows) n)
   unfolding at_name
-  at_holds n = record { opened = o; counted = k; fits = λ f. f; spelt = λ f s. s; more = λ i q. absurd (refused_not q) }
+  at_holds n = record { opened = o; counted = k; fits = λ f. f; spelt = λ f s. s; more = λ i q. cc }
 
-  plain_holds : (n : ℕ) → Holds bytes dir (keeping st text names rows) (plain (source rules bytes dir cur) (keeping st text names rows) n)
+  plain_holds : (n : Reason) → Holds bytes dir (keeping st text names rows) (plain (source rules bytes dir cur) (keeping st text names rows) n)
   unfolding plain
-  plain_holds n = record { opened = o; counted = k; fits = λ f. f; spelt = λ f s. s; more = λ i q. absurd (refused_not q) }
+  plain_holds n = record { opened = o; counted = k; fits = λ f. f; spelt = λ f s. s; more = λ i q. cc }
 
-  done_holds : Holds bytes dir (keeping st text names rows) (outcome answer.Done cur (keeping st text names rows))
-  done_holds = record { opened = o; counted = k; fits = λ f. f; spelt = λ f s. s; more = λ i q. absurd (done_not q) }
+  done_holds : Holds bytes dir (keeping st text names rows) (outcome (Ok None) cur (keeping st text names rows))
+  done_holds = record { opened = o; counted = k; fits = λ f. f; spelt = λ f s. s; more = λ i q. cc }
 
   module _ (few : st.names < st.count) where
     module _ (d : Draft) (first many distance : ℕ) (p : Open bytes dir d.cur) (short : length d.text ≤ 254) (most : d.count ≤ 127)
@@ -218,7 +213,7 @@ module _ (rules : Rules) (bytes dir cur text names : List ℕ) (rows : Table) (s
       keep_holds : Holds bytes dir (keeping st text names rows) (keep_of (source rules bytes dir cur) (keeping st text names rows) d first many distance)
       unfolding keep_of
       keep_holds =
-          pick_holds (Holds bytes dir (keeping st text names rows)) (room_for (keeping st text names rows) d) _ _ kept_holds (λ h. at_holds 9)
+          pick_holds (Holds bytes dir (keeping st text names rows)) (room_for (keeping st text names rows) d) _ _ kept_holds (λ h. at_holds reason.NoRoom)
 
     dup_holds : (distance : ℕ) (x : Entry) → Headed (source rules bytes dir cur) dup_stream distance st.names → EntryInside st rows x
         → (AllSpelt (keeping st text names rows) → RowsSpelt (steps.earlier text rows x.first x.rows))
@@ -261,7 +256,7 @@ module _ (rules : Rules) (bytes dir cur text names : List ℕ) (rows : Table) (s
     dup_judged_holds d g =
         pick_holds (Holds bytes dir (keeping st text names rows)) (earlier_fits (keeping st text names rows) (st.names - d)) _ _
         (λ h. dup_holds d (entry_back (keeping st text names rows) d) g.1 (back_inside d h) (back_spelt d (omega (arith, g.0, g.1.near))))
-        (λ h. at_holds 13)
+        (λ h. at_holds reason.Outside)
 
     first_headed : (d : ℕ) → d ≡ 0 → Headed (source rules bytes dir cur) diff_stream d st.names → Headed (source rules bytes dir cur) diff_stream 0 st.names
     first_headed d z g = rw z at g
@@ -276,20 +271,20 @@ module _ (rules : Rules) (bytes dir cur text names : List ℕ) (rows : Table) (s
         pick_holds (Holds bytes dir (keeping st text names rows)) (earlier_fits (keeping st text names rows) (st.names - d)) _ _
         (λ h. diff_holds d (rows_of (keeping st text names rows) (entry_back (keeping st text names rows) d))
         (rows_judged st text rows (entry_back (keeping st text names rows) d) k.rows_used k.used (back_inside d h)) g)
-        (λ h. at_holds 13))
+        (λ h. at_holds reason.Outside))
 
     headed_holds : (h : Head) → head_of (source rules bytes dir cur) st.names ≡ h
         → Holds bytes dir (keeping st text names rows) (headed_of (source rules bytes dir cur) (keeping st text names rows) h)
     unfolding headed_of
-    headed_holds (head.Dup d) q = dup_judged_holds d.0 (dup_told (source rules bytes dir cur) st.names d q)
-    headed_holds (head.Diff d) q = diff_judged_holds d.0 (diff_told (source rules bytes dir cur) st.names d q)
-    headed_holds (head.Refused r) q = at_holds r
+    headed_holds (Ok (reference.Dup d)) q = dup_judged_holds d.0 (dup_told (source rules bytes dir cur) st.names d q)
+    headed_holds (Ok (reference.Diff d)) q = diff_judged_holds d.0 (diff_told (source rules bytes dir cur) st.names d q)
+    headed_holds (Err r) q = at_holds r
 
   pub next_holds : Holds bytes dir (keeping st text names rows) (next_of (source rules bytes dir cur) (keeping st text names rows))
   unfolding next_of
   next_holds =
       pick_holds (Holds bytes dir (keeping st text names rows)) (eqb st.names st.count) _ _
-      (λ e. pick_holds (Holds bytes dir (keeping st text names rows)) (all_at_end dir cur) _ _ (λ h. done_holds) (λ h. plain_holds 10))
+      (λ e. pick_holds (Holds bytes dir (keeping st text names rows)) (all_at_end dir cur) _ _ (λ h. done_holds) (λ h. plain_holds reason.Unread))
       (λ e.
       let z = eqb-false st.names st.count e in
       headed_holds (omega (arith, k.kept)) (head_of (source rules bytes dir cur) st.names) refl)

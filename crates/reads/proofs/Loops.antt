@@ -1,5 +1,7 @@
 -- Reads one after another, in the form in which the loop's turn wants them.
 use Prim.Native.Nat.{ℕ, suc, ◌+◌, ◌-◌, ◌<◌}
+use Rattle.entries.specs.Entries.{Answer}
+use Rattle.std.specs.Prelude.{Some, None, Ok, Err}
 use mathlib.Core.Path.{◌≡◌, refl, sym, ◌∙◌}
 use mathlib.Core.Bool.{Bool, true, false}
 use mathlib.Core.List.{List}
@@ -14,8 +16,6 @@ use Rattle.tables.specs.Tables.{Kept, keeping, Table}
 use Rattle.kept.specs.Inside.{Counted}
 use Rattle.sources.specs.Source.{source}
 use Rattle.earlier.specs.Fits.{Known}
-use Rattle.entries.specs.declared.Answer.{Answer}
-use Rattle.entries.specs.declared.Answer.TheVariants as answer
 use Rattle.outcomes.specs.Outcomes.{Outcome}
 use Rattle.inner.specs.Next.{next_of}
 use Rattle.reads.specs.Reads.{is_kept, fresh, go_on, reads_from}
@@ -24,21 +24,21 @@ use Rattle.reads.proofs.Holding.{More, Holds, next_holds, read_next}
 -- the reads of a block
 kept_on : (rest : Outcome → Outcome) (o : Outcome) (a : Answer) → is_kept a ≡ true → go_on rest o a ≡ rest o
 unfolding is_kept go_on
-kept_on rest o (answer.Kept n) q = refl
-kept_on rest o answer.Done q = absurd (never q)
-kept_on rest o (answer.Refused r) q = absurd (never q)
+kept_on rest o (Ok (Some n)) q = refl
+kept_on rest o (Ok None) q = absurd (never q)
+kept_on rest o (Err r) q = absurd (never q)
 
 kept_out : (rest : Outcome → Outcome) (o : Outcome) (a : Answer) → is_kept a ≡ false → go_on rest o a ≡ o
 unfolding is_kept go_on
-kept_out rest o (answer.Kept n) q = absurd (never (sym q))
-kept_out rest o answer.Done q = refl
-kept_out rest o (answer.Refused r) q = refl
+kept_out rest o (Ok (Some n)) q = absurd (never (sym q))
+kept_out rest o (Ok None) q = refl
+kept_out rest o (Err r) q = refl
 
-kept_more : (m : Kept) (o : Outcome) (a : Answer) → o.answer ≡ a → is_kept a ≡ true → ((n : ℕ) → o.answer ≡ answer.Kept n → More m o) → More m o
+kept_more : (m : Kept) (o : Outcome) (a : Answer) → o.answer ≡ a → is_kept a ≡ true → ((n : ℕ) → o.answer ≡ Ok (Some n) → More m o) → More m o
 unfolding is_kept
-kept_more m o (answer.Kept n) e q h = h n e
-kept_more m o answer.Done e q h = absurd (never q)
-kept_more m o (answer.Refused r) e q h = absurd (never q)
+kept_more m o (Ok (Some n)) e q h = h n e
+kept_more m o (Ok None) e q h = absurd (never q)
+kept_more m o (Err r) e q h = absurd (never q)
 
 -- where the next read starts: the block is open, the counts are judged, what is known of the kept names is, and the reads left make all of them, or it is the one
 pub record Reads (rules : Rules) (bytes dir : List ℕ) (whole : Bool) (all : Outcome) (cur : List ℕ) (m : Kept) : Type 0 where

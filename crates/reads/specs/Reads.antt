@@ -1,13 +1,13 @@
 -- Reads: one read, as the public call gives it, and reads one after another until "done" or a refusal.
-use Rattle.std.specs.Prelude.{ℕ, zero, suc, ◌+◌, ◌-◌, Bool, true, false, List, length}
+use Rattle.std.specs.Prelude.{ℕ, zero, suc, ◌+◌, ◌-◌, Bool, true, false, List, length, Some, None, Ok, Err}
+use Rattle.entries.specs.Entries.{Answer}
+use Rattle.refusals.specs.declared.Reason.TheVariants as reason
 use Rattle.base.specs.Choice.{pick}
 use Rattle.block.specs.Block.{sound, all_inside}
 use Rattle.numbering.specs.Types.{Rules}
 use Rattle.tables.specs.Tables.{Kept}
 use Rattle.kept.specs.Judgement.{counts}
 use Rattle.sources.specs.Source.{Source, source}
-use Rattle.entries.specs.declared.Answer.{Answer}
-use Rattle.entries.specs.declared.Answer.TheVariants as answer
 use Rattle.outcomes.specs.Outcomes.{Outcome, outcome, plain}
 use Rattle.inner.specs.Next.{next_of}
 
@@ -16,25 +16,25 @@ unfoldable pub read_of : Source → Kept → Outcome
 read_of s m =
     pick (sound (length s.bytes) s.dir s.cur)
     (pick (counts m)
-    (pick (all_inside s.dir s.cur) (next_of s m) (plain s m 13))
-    (plain s m 13))
-    (plain s m 1)
+    (pick (all_inside s.dir s.cur) (next_of s m) (plain s m reason.Outside))
+    (plain s m reason.Outside))
+    (plain s m reason.Unsound)
 
 -- after one read: on with `rest` where it kept a name, else it is the last
 unfoldable pub go_on : (Outcome → Outcome) → Outcome → Answer → Outcome
-go_on rest o (answer.Kept n) = rest o
-go_on rest o answer.Done = o
-go_on rest o (answer.Refused r) = o
+go_on rest o (Ok (Some n)) = rest o
+go_on rest o (Ok None) = o
+go_on rest o (Err r) = o
 
 -- a read that keeps a name
 unfoldable pub is_kept : Answer → Bool
-is_kept (answer.Kept n) = true
-is_kept answer.Done = false
-is_kept (answer.Refused r) = false
+is_kept (Ok (Some n)) = true
+is_kept (Ok None) = false
+is_kept (Err r) = false
 
 -- what the reads start from
 abbrev pub fresh : List ℕ → Kept → Outcome
-fresh cur m = outcome answer.Done cur m
+fresh cur m = outcome (Ok None) cur m
 
 -- at most f reads
 unfoldable pub reads_from : Rules → List ℕ → List ℕ → ℕ → Outcome → Outcome

@@ -14,20 +14,10 @@ ghost use Rattle.reads.specs.Reads.{is_kept, whole_or_one};
 use block::{Setting, State};
 use entries::{Answer, Reading};
 
-fn keeps(a: Answer) -> bool
-    ensures { result ≡ is_kept a }
-{
-    match a {
-        Answer::Kept(_) => true,
-        Answer::Done => false,
-        Answer::Refused(_) => false,
-    }
-}
-
 fn goes_on(whole: bool, a: Answer) -> bool
     ensures { result ≡ both whole (is_kept a) }
 {
-    if keeps(a) { whole } else { false }
+    whole && matches!(a, Ok(Some(_)))
 }
 
 // Reads of a whole block, until "done" or a refusal, or one read; each of them the inner one: what it needs holds again after it.
@@ -49,6 +39,7 @@ pub fn reads(
     ensures { leaves result cursors.new text.new entries.new rows.new ≡ whole_or_one whole (block_lent set bytes.now dir.now cursors.old) (tables_lent state text.old entries.old rows.old) }
 {
     let mut so_far = state;
+    // Not a `for`: what ends it is an answer.
     loop {
         let r = inner::next(set, whole, bytes, dir, cursors, text, entries, rows, so_far);
         let answer = r.answer;

@@ -6,9 +6,9 @@ ghost use Rattle.model.specs.Sound.{Sound};
 ghost use Rattle.replays.specs.Replays.{replaying, table_in, step_of, replay_of};
 
 use model::Model;
-use replays::Replayed;
+use refusals::Refusal;
 
-pub fn replay(m: &mut Model, size: u32, trace: &[u8]) -> Replayed
+pub fn replay(m: &mut Model, size: u32, trace: &[u8]) -> Result<(), Refusal>
     ensures { replaying result m.new ≡ replay_of size trace.now m.old }
 {
     replays::replay(
@@ -21,7 +21,7 @@ pub fn replay(m: &mut Model, size: u32, trace: &[u8]) -> Replayed
 }
 
 // One symbol seen: it adds 8, halves if needed, swaps. What a replay or a step left is a sound table.
-pub fn step(m: &mut Model, size: u32, symbol: u8) -> Replayed
+pub fn step(m: &mut Model, size: u32, symbol: u8) -> Result<(), Refusal>
     requires { Sound size (table_in size m.old) }
     ensures { replaying result m.new ≡ step_of size symbol m.old }
 {

@@ -2,8 +2,8 @@
 use Rattle.std.specs.Prelude.{ℕ, Bool, List, [], eqb}
 use Rattle.base.specs.Choice.{pick}
 use Rattle.comparing.specs.Same.{same}
-use Rattle.references.specs.declared.Reference.{Reference}
-use Rattle.references.specs.declared.Reference.TheVariants.{Dup, Diff}
+use Rattle.distances.specs.declared.Reference.{Reference}
+use Rattle.distances.specs.declared.Reference.TheVariants.{Dup, Diff}
 
 -- a name with no reference to an earlier one: name 0
 unfoldable pub anew : ℕ → Bool

@@ -4,14 +4,8 @@
 ghost use Rattle.std.specs.Prelude.{◌≡◌};
 ghost use Rattle.references.specs.References.{anew, reference_of, leans_on};
 
+use distances::Reference;
 use spans::Distance;
-
-// What is written at position 0.
-#[derive(Clone, Copy)]
-pub enum Reference {
-    Dup(Distance),
-    Diff(Distance),
-}
 
 // Name n refers to no earlier one.
 fn is_anew(n: u32) -> bool

@@ -12,7 +12,7 @@ ghost use Rattle.runs.specs.Runs.{text_length};
 ghost use Rattle.repeating.specs.Repeating.{moved_rows, types_past, repeat_put};
 ghost use Rattle.block.specs.Streams.{type_stream};
 
-use block::stream;
+use block::Stream;
 use spans::Position;
 use tables::Row;
 
@@ -23,23 +23,12 @@ fn copy_rows(rows: &mut [u32], from: usize, to: usize, row: usize, at: u32)
     requires by_index_2 { (j : ℕ) → from ≤ j → j < to → at + ((row_at (in_rows rows.old) j).start + (row_at (in_rows rows.old) j).length) < 2 ^ 32 + (row_at (in_rows rows.old) from).start }
     ensures { rows_left rows.new ≡ put_rows (rows_lent rows.old) row (moved_rows (rows_lent rows.old) from (to - from) at) }
 {
-    let mut i = from;
-    let mut k = row;
     let mut start = at;
-    while i < to {
+    for i in from..to {
         let r = tables::row_in(rows, i);
-        let w = r.length;
-        let moved = Row {
-            kind: r.kind,
-            number: r.number,
-            width: r.width,
-            start: start,
-            length: w,
-        };
-        tables::put_row(rows, k, moved);
-        start += w;
-        i += 1;
-        k += 1;
+        let moved = Row { start, ..r };
+        tables::put_row(rows, row + (i - from), moved);
+        start += r.length;
     }
 }
 
@@ -48,11 +37,8 @@ fn move_types(cursors: &mut [u32], p: Position, q: Position)
     requires by_index { (i : ℕ) → p.0 ≤ i → i < q.0 → cursor_of cursors.old (span_of i type_stream) + 1 < 2 ^ 32 }
     ensures { cursors.new ≡ types_past cursors.old p.0 (q.0 - p.0) }
 {
-    let stop = q.0;
-    let mut i = p.0;
-    while i < stop {
-        moving::move_on(cursors, Position(i), stream::TYPE, 1);
-        i += 1;
+    for i in p.0..q.0 {
+        moving::move_on(cursors, Position(i), Stream::Type, 1);
     }
 }
 

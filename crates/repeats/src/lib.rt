@@ -7,10 +7,11 @@ ghost use Rattle.tables.specs.Tables.{row_at, in_rows, row_room, rows_lent};
 ghost use Rattle.kept.specs.Inside.{RowInside};
 ghost use Rattle.sources.specs.Source.{earlier, source};
 ghost use Rattle.numbering.specs.Types.{Rules};
-ghost use Rattle.repeats.specs.Repeats.{token_of, match_of, delta_at, delta0_at, match_at};
+ghost use Rattle.repeats.specs.Repeats.{token_of, match_of, fitting, delta_at, delta0_at, match_at};
 ghost use Rattle.repeats.specs.Sound.{Rows, reach};
 
-use block::stream;
+use block::Stream;
+use refusals::Reason;
 use spans::{Cursor, Position};
 use tables::Row;
 use tokens::{Padded, Text, Token};
@@ -49,6 +50,23 @@ fn row_here(rows: &[u32], first: u32, p: Position) -> Row
     tables::row_at(rows, first + (p.0 - 1))
 }
 
+// The same, if the earlier name has a row of that kind there.
+fn fitting(rows: &[u32], first: u32, count: u32, p: Position, kind: u32) -> Result<Row, Reason>
+    requires count_bound { first + count ≤ row_room (in_rows rows.now) }
+    requires count_bound_2 { (first + count < 2 ^ 32) × (1 ≤ p.0) }
+    ensures { (text : List ℕ) → result ≡ fitting (earlier text (rows_lent rows.now) first count) p.0 kind }
+{
+    if count < p.0 {
+        return Err(Reason::NoRow);
+    }
+    let r = row_here(rows, first, p);
+    if r.kind == kind {
+        Ok(r)
+    } else {
+        Err(Reason::NoRow)
+    }
+}
+
 pub fn delta_at(
     bytes: &[u8],
     dir: &[u32],
@@ -63,17 +81,9 @@ pub fn delta_at(
     requires count_bound_2 { (first + count < 2 ^ 32) × ((1 ≤ p.0) × (p.0 ≤ 128)) }
     ensures { (rules : Rules) (text : List ℕ) → result ≡ delta_at (source rules bytes.now dir.now cursors.now) (earlier text (rows_lent rows.now) first count) p.0 }
 {
-    let at = p.0;
-    if count < at {
-        return Step::Refused(5);
-    }
-    let r = row_here(rows, first, p);
-    if r.kind != 7 {
-        return Step::Refused(5);
-    }
-    let number = r.number;
-    let found = sources::byte_in(bytes, dir, cursors, p, stream::DDELTA);
-    sums::delta_step(number, found)
+    let r = fitting(rows, first, count, p, 7)?;
+    let found = sources::byte_in(bytes, dir, cursors, p, Stream::Ddelta);
+    sums::delta_step(r.number, found)
 }
 
 pub fn delta0_at(
@@ -90,25 +100,16 @@ pub fn delta0_at(
     requires count_bound_2 { (first + count < 2 ^ 32) × ((1 ≤ p.0) × (p.0 ≤ 128)) }
     ensures { (rules : Rules) (text : List ℕ) → result ≡ delta0_at (source rules bytes.now dir.now cursors.now) (earlier text (rows_lent rows.now) first count) p.0 }
 {
-    let at = p.0;
-    if count < at {
-        return Step::Refused(5);
-    }
-    let r = row_here(rows, first, p);
-    if r.kind != 4 {
-        return Step::Refused(5);
-    }
-    let number = r.number;
-    let width = r.width;
-    let found = sources::byte_in(bytes, dir, cursors, p, stream::DDELTA0);
-    sums::delta0_step(number, width, found)
+    let r = fitting(rows, first, count, p, 4)?;
+    let found = sources::byte_in(bytes, dir, cursors, p, Stream::Ddelta0);
+    sums::delta0_step(r.number, r.width, found)
 }
 
 fn match_of(text: &[u8], r: Row, c: Cursor) -> Step
     requires { RowInside (reach text.now) r }
     ensures { result ≡ match_of text.now r c }
 {
-    Step::Got(token_of(text, r), c)
+    Ok(Some((token_of(text, r), c)))
 }
 
 pub fn match_at(text: &[u8], rows: &[u32], first: u32, count: u32, p: Position, c: Cursor) -> Step
@@ -118,7 +119,7 @@ pub fn match_at(text: &[u8], rows: &[u32], first: u32, count: u32, p: Position, 
 {
     let at = p.0;
     if count < at {
-        return Step::Refused(5);
+        return Err(Reason::NoRow);
     }
     let r = row_here(rows, first, p);
     match_of(text, r, c)

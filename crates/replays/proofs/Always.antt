@@ -17,9 +17,10 @@ use Rattle.base.proofs.Numbers.{by_order}
 use Rattle.model.specs.declared.Model.{Model}
 use Rattle.model.specs.Model.{model, growth, most, places, started, place_of, sum_of, sum, halves, grown, halved, settled, swapped, exceeds, raised, step_at}
 use Rattle.model.specs.Sound.{Table, Sound, is, times, beyond, outside}
-use Rattle.block.specs.declared.Refusal.TheVariants.{Plain}
-use Rattle.replays.specs.declared.Replayed.{Replayed}
-use Rattle.replays.specs.declared.Replayed.TheVariants.{Whole, Refused}
+use Rattle.refusals.specs.declared.Refusal.TheVariants.{Plain}
+use Rattle.refusals.specs.declared.Reason.TheVariants.{BadSymbol}
+use Rattle.std.specs.Prelude.{⊤, Result, Ok, Err}
+use Rattle.refusals.specs.declared.Refusal.{Refusal}
 use Rattle.replays.specs.Replays.{Replaying, replaying, turn_of}
 use Rattle.model.proofs.Laws.{halves_length, swapped_is, exceeds_is}
 use Rattle.model.proofs.Sums.{sum_set}
@@ -198,11 +199,11 @@ by_length n m g = subst (λ (k : ℕ). Sound k m) (sym g.table.placed) g
 pub sound_turn : (n : ℕ) (m : Model) → Sound n m → (s : ℕ) → Sound n (turn_of m s).model
 unfolding turn_of
 sound_turn n m t s =
-    pick_holds (λ (r : Replaying). Sound n r.model) (ltb (place_of m.symbols s) (length m.symbols)) (replaying Whole (step_at m (place_of m.symbols s))) (replaying (Refused (Plain 18)) m)
+    pick_holds (λ (r : Replaying). Sound n r.model) (ltb (place_of m.symbols s) (length m.symbols)) (replaying (Ok tt) (step_at m (place_of m.symbols s))) (replaying (Err (Plain BadSymbol)) m)
     (λ e. sound_step n m t (place_of m.symbols s) (omega (arith, ltb-true (place_of m.symbols s) (length m.symbols) e, t.table.placed)))
     (λ e. t)
 
-pub sound_after : (n : ℕ) (m : Model) → Sound n m → (s : ℕ) (a : Replayed) (t : Model) → replaying a t ≡ turn_of m s → Sound n t
+pub sound_after : (n : ℕ) (m : Model) → Sound n m → (s : ℕ) (a : Result ⊤ Refusal) (t : Model) → replaying a t ≡ turn_of m s → Sound n t
 sound_after n m g s a t e = subst (Sound n) (ap (λ (r : Replaying). r.model) (sym e)) (sound_turn n m g s)
 
 -- ---- the place of a symbol

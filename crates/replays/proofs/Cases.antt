@@ -3,9 +3,10 @@ use mathlib.Core.Path.{◌≡◌, refl}
 use mathlib.Core.List.{[], ◌∷◌}
 use Rattle.base.specs.Choice.{pick}
 use Rattle.base.specs.Every.{numbers}
-use Rattle.block.specs.declared.Refusal.TheVariants.{Plain}
+use Rattle.refusals.specs.declared.Refusal.TheVariants.{Plain}
+use Rattle.refusals.specs.declared.Reason.TheVariants.{BadSymbol}
 use Rattle.model.specs.Model.{model, started, place_of, sum_of, halves, grown, halved, settled, neighbour, swapped, exceeds, raised, step_at}
-use Rattle.replays.specs.declared.Replayed.TheVariants.{Whole, Refused}
+use Rattle.std.specs.Prelude.{Ok, Err}
 use Rattle.replays.specs.Replays.{replaying, turn_of, onward, replay_from}
 
 -- a total of 65,504 stays; at 65,512 every frequency is halved, each 1 staying 1
@@ -23,15 +24,15 @@ unfolding pick grown settled halved halves sum_of neighbour swapped exceeds rais
 moves_by_halves = refl
 
 -- one place at a time, and only past a smaller one
-pub one_place : replay_from (started 4) (3 ∷ 3 ∷ 2 ∷ 2 ∷ []) ≡ replaying Whole (model (0 ∷ 3 ∷ 2 ∷ 1 ∷ []) (1 ∷ 17 ∷ 17 ∷ 1 ∷ []) 36)
+pub one_place : replay_from (started 4) (3 ∷ 3 ∷ 2 ∷ 2 ∷ []) ≡ replaying (Ok tt) (model (0 ∷ 3 ∷ 2 ∷ 1 ∷ []) (1 ∷ 17 ∷ 17 ∷ 1 ∷ []) 36)
 unfolding pick numbers started place_of grown settled halved halves sum_of neighbour swapped exceeds raised step_at turn_of onward replay_from
 one_place = refl
 
 -- a symbol outside the table: the first one, and a later one
-pub outside_first : replay_from (started 3) (3 ∷ 2 ∷ []) ≡ replaying (Refused (Plain 18)) (model (0 ∷ 1 ∷ 2 ∷ []) (1 ∷ 1 ∷ 1 ∷ []) 3)
+pub outside_first : replay_from (started 3) (3 ∷ 2 ∷ []) ≡ replaying (Err (Plain BadSymbol)) (model (0 ∷ 1 ∷ 2 ∷ []) (1 ∷ 1 ∷ 1 ∷ []) 3)
 unfolding pick numbers started place_of grown settled halved halves sum_of neighbour swapped exceeds raised step_at turn_of onward replay_from
 outside_first = refl
 
-pub outside_later : replay_from (started 3) (2 ∷ 3 ∷ 2 ∷ []) ≡ replaying (Refused (Plain 18)) (model (0 ∷ 2 ∷ 1 ∷ []) (1 ∷ 9 ∷ 1 ∷ []) 11)
+pub outside_later : replay_from (started 3) (2 ∷ 3 ∷ 2 ∷ []) ≡ replaying (Err (Plain BadSymbol)) (model (0 ∷ 2 ∷ 1 ∷ []) (1 ∷ 9 ∷ 1 ∷ []) 11)
 unfolding pick numbers started place_of grown settled halved halves sum_of neighbour swapped exceeds raised step_at turn_of onward replay_from
 outside_later = refl

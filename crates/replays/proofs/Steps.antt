@@ -9,8 +9,8 @@ use Rattle.base.proofs.Lists.{written_mid}
 use Rattle.model.specs.declared.Model.{Model}
 use Rattle.model.specs.Model.{model, places, started}
 use Rattle.model.specs.Sound.{Sound}
-use Rattle.replays.specs.declared.Replayed.{Replayed}
-use Rattle.replays.specs.declared.Replayed.TheVariants.{Whole, Refused}
+use Rattle.std.specs.Prelude.{⊤, Result, Ok, Err}
+use Rattle.refusals.specs.declared.Refusal.{Refusal}
 use Rattle.replays.specs.Replays.{Replaying, replaying, turn_of, onward, replay_from, replay_fresh, with_table, in_place, table_in, step_of}
 use Rattle.replays.specs.Steps.{steps_of, started_in, ReplayIsSteps, ReplaySound, StepSound}
 use Rattle.replays.proofs.Always.{sound_started, sound_turn}
@@ -45,11 +45,11 @@ module _ (n : ℕ) (m : Model) where
   step_is t s g = ap (λ (x : Model). in_place (with_table m t) (turn_of x s)) (in_front t g) ∙ replaced t (turn_of t s) g (sound_turn n t g s)
 
   -- what comes after a turn: in the table, and in the record
-  onward_is : (a : Replayed) (t : Model) (rest : List ℕ) → in_place m (replay_from t rest) ≡ steps_of n (with_table m t) rest
+  onward_is : (a : Result ⊤ Refusal) (t : Model) (rest : List ℕ) → in_place m (replay_from t rest) ≡ steps_of n (with_table m t) rest
       → in_place m (onward a t (λ (x : Model). replay_from x rest)) ≡ onward a (with_table m t) (λ (x : Model). steps_of n x rest)
   unfolding onward in_place
-  onward_is Whole t rest e = e
-  onward_is (Refused c) t rest e = refl
+  onward_is (Ok u) t rest e = e
+  onward_is (Err c) t rest e = refl
 
   steps_are : (trace : List ℕ) (t : Model) → Sound n t → in_place m (replay_from t trace) ≡ steps_of n (with_table m t) trace
   unfolding replay_from steps_of in_place
@@ -63,10 +63,10 @@ unfolding started_in
 replay_is_steps n trace m h k = sym (well_sized n trace m h k) ∙ ap (in_place m) (fresh_is n trace) ∙ steps_are n m trace (started n) (sound_started n k)
 
 -- a table that is sound is so after any trace
-onward_sound : (n : ℕ) (a : Replayed) (t : Model) (rest : List ℕ) → Sound n t → Sound n (replay_from t rest).model → Sound n (onward a t (λ (x : Model). replay_from x rest)).model
+onward_sound : (n : ℕ) (a : Result ⊤ Refusal) (t : Model) (rest : List ℕ) → Sound n t → Sound n (replay_from t rest).model → Sound n (onward a t (λ (x : Model). replay_from x rest)).model
 unfolding onward
-onward_sound n Whole t rest g h = h
-onward_sound n (Refused c) t rest g h = g
+onward_sound n (Ok u) t rest g h = h
+onward_sound n (Err c) t rest g h = g
 
 sound_from_law : (n : ℕ) (trace : List ℕ) (t : Model) → Sound n t → Sound n (replay_from t trace).model
 unfolding replay_from

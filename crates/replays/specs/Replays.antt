@@ -1,36 +1,36 @@
 -- A trace of symbols replayed (C-22): from the start, a step for each symbol of the trace; 17, then 18.
-use Rattle.std.specs.Prelude.{ℕ, Bool, List, [], ◌∷◌, length, take, ltb, leb}
+use Rattle.std.specs.Prelude.{ℕ, ⊤, Bool, List, [], ◌∷◌, Result, Ok, Err, length, take, ltb, leb}
 use Rattle.base.specs.Choice.{pick, both}
 use Rattle.base.specs.Memory.{written}
-use Rattle.block.specs.declared.Refusal.TheVariants.{Plain}
+use Rattle.refusals.specs.declared.Reason.TheVariants.{BadSize, BadSymbol}
+use Rattle.refusals.specs.declared.Refusal.{Refusal}
+use Rattle.refusals.specs.declared.Refusal.TheVariants.{Plain}
 use Rattle.model.specs.declared.Model.{Model}
 use Rattle.model.specs.Model.{model, places, started, place_of, step_at}
-use Rattle.replays.specs.declared.Replayed.{Replayed}
-use Rattle.replays.specs.declared.Replayed.TheVariants as answer
 
 -- what a replay leaves: its answer and the model
 pub record Replaying : Type 0 where
-  pub answer : Replayed
+  pub answer : Result ⊤ Refusal
   pub model : Model
 
-abbrev pub replaying : Replayed → Model → Replaying
+abbrev pub replaying : Result ⊤ Refusal → Model → Replaying
 replaying a m = record { answer = a; model = m }
 
 -- one symbol: refused with 18 if it stands nowhere in the table, which then stays; else its step
 unfoldable pub turn_of : Model → ℕ → Replaying
 turn_of m s =
     pick (ltb (place_of m.symbols s) (length m.symbols))
-    (replaying answer.Whole (step_at m (place_of m.symbols s)))
-    (replaying (answer.Refused (Plain 18)) m)
+    (replaying (Ok tt) (step_at m (place_of m.symbols s)))
+    (replaying (Err (Plain BadSymbol)) m)
 
 -- what comes after a turn: the rest, on the table that it left; nothing after a refusal
-unfoldable pub onward : Replayed → Model → (Model → Replaying) → Replaying
-onward answer.Whole m rest = rest m
-onward (answer.Refused r) m rest = replaying (answer.Refused r) m
+unfoldable pub onward : Result ⊤ Refusal → Model → (Model → Replaying) → Replaying
+onward (Ok u) m rest = rest m
+onward (Err r) m rest = replaying (Err r) m
 
 -- a table taken through a trace: a turn for each symbol until one is refused, and the table keeps what those before it did
 unfoldable pub replay_from : Model → List ℕ → Replaying
-replay_from m [] = replaying answer.Whole m
+replay_from m [] = replaying (Ok tt) m
 replay_from m (s ∷ rest) = onward (turn_of m s).answer (turn_of m s).model (λ t. replay_from t rest)
 
 -- a table of n symbols, from its start
@@ -59,4 +59,4 @@ is_size n = both (leb 1 n) (leb n places)
 
 -- the call: 17 for another size, whatever the trace, and the record stays; else the table that the trace leaves, at 18 too
 unfoldable pub replay_of : ℕ → List ℕ → Model → Replaying
-replay_of n trace m = pick (is_size n) (in_place m (replay_fresh n trace)) (replaying (answer.Refused (Plain 17)) m)
+replay_of n trace m = pick (is_size n) (in_place m (replay_fresh n trace)) (replaying (Err (Plain BadSize)) m)

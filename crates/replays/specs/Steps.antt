@@ -1,14 +1,13 @@
 -- A replay is its steps: what `replay` leaves of a record, and what `step` leaves of it.
-use Rattle.std.specs.Prelude.{ℕ, ◌≤◌, ◌≡◌, List, [], ◌∷◌}
+use Rattle.std.specs.Prelude.{ℕ, ◌≤◌, ◌≡◌, List, [], ◌∷◌, Ok}
 use Rattle.model.specs.declared.Model.{Model}
 use Rattle.model.specs.Model.{places, started}
 use Rattle.model.specs.Sound.{Sound}
-use Rattle.replays.specs.declared.Replayed.TheVariants as answer
 use Rattle.replays.specs.Replays.{Replaying, replaying, onward, with_table, table_in, step_of, replay_of}
 
 -- steps one after another, each on the record that the one before left, until one is refused
 unfoldable pub steps_of : ℕ → Model → List ℕ → Replaying
-steps_of n m [] = replaying answer.Whole m
+steps_of n m [] = replaying (Ok tt) m
 steps_of n m (s ∷ rest) = onward (step_of n s m).answer (step_of n s m).model (λ t. steps_of n t rest)
 
 -- a record with a table of n symbols at its start

@@ -1,22 +1,20 @@
 -- Demand 2 at the C boundary.
 use Prim.Native.Nat.{ℕ, zero, suc, ◌+◌, ◌*◌, ◌≤◌}
+use Rattle.entries.specs.Entries.{Answer}
+use Rattle.std.specs.Prelude.{None, Ok}
 use mathlib.Core.Path.{◌≡◌, refl, sym, ap, ◌∙◌, subst}
 use mathlib.Core.List.{List, [], ◌∷◌}
 use native.Mathlib.Omega.{arith}
 use native.Mathlib.Numerals.{add-one}
 use lib.ListN.{length, get_or, replicate}
-use Rattle.block.specs.declared.Opened.TheVariants as opened
 use Rattle.block.specs.Block.{Opening, opening, open_of, state, starts}
 use Rattle.tables.specs.Tables.{entry_size, keeping, Table, row_room}
 use Rattle.sources.specs.Source.{source}
-use Rattle.entries.specs.declared.Answer.{Answer}
-use Rattle.entries.specs.declared.Answer.TheVariants as answer
 use Rattle.outcomes.specs.Outcomes.{Outcome, outcome}
 use Rattle.reads.specs.Reads.{read_of}
 use Rattle.laying.specs.Puts.{total_of}
 use Rattle.inputs.specs.Inputs.{names_of}
 use Rattle.nameputs.specs.NamePuts.{puts_of}
-use Rattle.writing.specs.declared.WriteAnswer.TheVariants as written
 use Rattle.writing.specs.Writes.{Writing, write_of}
 use Rattle.codes.specs.Codes.{packed, refusal_number, state_in, state_out}
 use Rattle.opencalls.specs.Calls.{opened_number}
@@ -38,16 +36,16 @@ use Rattle.numbering.specs.Types.{Rules}
 
 -- writing that answers code 0 has written
 code_0 : (rules : Rules) (input dir bytes totals : List ℕ) (v : ℕ) (w : Writing) → WriteCase rules input dir bytes w → (writes_of totals w).number ≡ packed 0 v
-    → w.answer ≡ written.Written (length (names_of input)) v
+    → w.answer ≡ Ok (record { names = length (names_of input); bytes = v })
 unfolding writes_of written_number refusal_number packed
 code_0 rules input dir bytes totals v w (cases.writes_1 a) e = absurd (omega (arith, e))
 code_0 rules input dir bytes totals v w (cases.writes_12 a n) e = absurd (omega (arith, e))
 code_0 rules input dir bytes totals v w (cases.writes_8 n a c b) e = absurd (omega (arith, e))
 code_0 rules input dir bytes totals v w (cases.writes_9 a c h l) e = absurd (omega (arith, e))
-code_0 rules input dir bytes totals v w (cases.writes a c h l) e = ap (written.Written (length (names_of input))) (omega (arith, e))
+code_0 rules input dir bytes totals v w (cases.writes a c h l) e = ap (λ (b : ℕ). Ok (record { names = length (names_of input); bytes = b })) (omega (arith, e))
 
 has_written : (rules : Rules) (input dir bytes totals : List ℕ) (v : ℕ) → (write_call rules input dir bytes totals).number ≡ packed 0 v
-    → (write_of rules input dir bytes).answer ≡ written.Written (length (names_of input)) v
+    → (write_of rules input dir bytes).answer ≡ Ok (record { names = length (names_of input); bytes = v })
 unfolding write_call
 has_written rules input dir bytes totals v e = code_0 rules input dir bytes totals v _ (write_case rules input dir bytes) e
 
@@ -58,7 +56,7 @@ tells_totals rules input dir bytes totals v e = ap (written_totals totals) (has_
 pub writes_in_order : WritesInOrder
 unfolding write_call writes_of written_number written_totals
 writes_in_order rules input dir bytes totals a c h l =
-    let e : (write_of rules input dir bytes).answer ≡ written.Written (length (names_of input)) (total_of (puts_of rules (names_of input))) =
+    let e : (write_of rules input dir bytes).answer ≡ Ok (record { names = length (names_of input); bytes = total_of (puts_of rules (names_of input)) }) =
     ap (λ (w : Writing). w.answer) (case_writes rules input dir bytes _ (cases.writes a c h l)) in
     record { value = total_of (puts_of rules (names_of input)); number = ap written_number e; totals = ap (written_totals totals) e }
 
@@ -96,10 +94,10 @@ module _ (rules : Rules) (input dir bytes totals : List ℕ) (n total : ℕ) (w 
   all : n ≡ length (names_of input)
   all = sym (ap (λ (l : List ℕ). get_or l 0 0) same_totals)
 
-  answers : (write_of rules input dir bytes).answer ≡ written.Written n total
+  answers : (write_of rules input dir bytes).answer ≡ Ok (record { names = n; bytes = total })
   answers =
       has_written rules input dir bytes totals w.value w.number
-      ∙ ap (λ (l : List ℕ). written.Written (get_or l 0 0) (get_or l 1 0)) same_totals
+      ∙ ap (λ (l : List ℕ). Ok (record { names = get_or l 0 0; bytes = get_or l 1 0 })) same_totals
 
   module _ (b : List ℕ) (same : Begins total (write_call rules input dir bytes totals).bytes b) (cur text names : List ℕ) (rows : Table) (st : List ℕ) (t : length cur ≡ 1290) where
     call_back : Roomy (names_of input) (keeping (state_in st) text names rows)
@@ -117,9 +115,9 @@ module _ (rules : Rules) (input dir bytes totals : List ℕ) (n total : ℕ) (w 
     unfolding write_call writes_of open_call opens_of opened_number opened_state lent_from left reads_of read_number state_in state_out
     calls_back r =
         let d : List ℕ = (write_of rules input dir bytes).directory in
-        let fresh : open_of (length b) d n cur ≡ opening (opened.Fresh (state n 0 0 0)) (starts d) = opens_written rules input dir bytes n total answers b same cur t in
+        let fresh : open_of (length b) d n cur ≡ opening (Ok (state n 0 0 0)) (starts d) = opens_written rules input dir bytes n total answers b same cur t in
         let start : Reads = begun (open_call b d n cur st) text names rows in
-        let first : Outcome = outcome answer.Done (starts d) (keeping (state n 0 0 0) text names rows) in
+        let first : Outcome = outcome (Ok None) (starts d) (keeping (state n 0 0 0) text names rows) in
         let o : OneByOne rules (names_of input) b d first =
         reads_one_by_one rules input dir bytes n total answers b same text names rows (record { text = r.text; entries = r.entries; rows = r.rows }) in
         let lends : lent_from start ≡ left first = ap (λ (x : Opening). lent_from (begun (opens_of st x) text names rows)) fresh in

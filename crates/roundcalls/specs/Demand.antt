@@ -1,7 +1,6 @@
 -- Demand 2 at the C boundary: what aq_write wrote gives the same names back, read by aq_read_block, or by aq_open and aq_read one name a call.
-use Rattle.std.specs.Prelude.{ℕ, ◌+◌, ◌*◌, ◌≤◌, ◌<◌, ◌≡◌, List, [], ◌∷◌, length, get_or, replicate}
+use Rattle.std.specs.Prelude.{ℕ, ◌+◌, ◌*◌, ◌≤◌, ◌<◌, ◌≡◌, List, [], ◌∷◌, length, get_or, replicate, None, Ok}
 use Rattle.tables.specs.Tables.{entry_size, keeping, Table, row_room}
-use Rattle.entries.specs.declared.Answer.TheVariants as answer
 use Rattle.outcomes.specs.Outcomes.{outcome}
 use Rattle.laying.specs.Puts.{total_of}
 use Rattle.inputs.specs.Inputs.{names_of}
@@ -39,7 +38,7 @@ pub record BlockBack (input : List ℕ) (n : ℕ) (r : Reads) : Type 0 where
   pub number : r.number ≡ packed 256 n
   pub count : (lent_from r).kept.state.names ≡ n
   pub all : n ≡ length (names_of input)
-  pub names : InputBack input (outcome answer.Done r.cursors (lent_from r).kept)
+  pub names : InputBack input (outcome (Ok None) r.cursors (lent_from r).kept)
 
 -- whatever aq_write wrote: aq_read_block, handed the directory and the number of names that it left and any bytes that begin with the total that it wrote,
 -- a cursor table of the right length, room for the names and any state, gives the names back

@@ -1,5 +1,7 @@
 -- Read after read: from what is reached, the reads keep all names that are left, and then the block is done.
 use Prim.Native.Nat.{ℕ, zero, suc, ◌+◌, ◌≤◌, ◌<◌}
+use Rattle.entries.specs.Entries.{Answer}
+use Rattle.std.specs.Prelude.{Some, None, Ok}
 use mathlib.Core.Path.{◌≡◌, refl, sym, ap, ◌∙◌, subst}
 use mathlib.Core.List.{List, [], ◌∷◌, ◌++◌}
 use native.Mathlib.Omega.{arith}
@@ -11,8 +13,6 @@ use Rattle.block.specs.Block.{state, end_of}
 use Rattle.tables.specs.Tables.{Kept, row_room}
 use Rattle.kept.proofs.Later.{Later, later_same, later_then}
 use Rattle.sources.specs.Source.{source}
-use Rattle.entries.specs.declared.Answer.{Answer}
-use Rattle.entries.specs.declared.Answer.TheVariants as answer
 use Rattle.outcomes.specs.Outcomes.{Outcome, outcome}
 use Rattle.reads.specs.Reads.{read_of, go_on, reads_from}
 use Rattle.roundtrip.specs.Room.{listed, text_wanted, rows_added, rows_for}
@@ -36,7 +36,7 @@ names_at m (s ∷ ss) i a (suc j) h =
 
 -- all names that were left are kept
 pub record Whole (m : Kept) (before : List ℕ) (coming : List (List ℕ)) (o : Outcome) : Type 0 where
-  pub answer : o.answer ≡ answer.Done
+  pub answer : o.answer ≡ Ok None
   pub stays : Later m o.kept
   pub room : o.kept.state.rows ≤ row_room o.kept.rows
   pub each : NamesAre o.kept m.state.names coming
@@ -44,7 +44,7 @@ pub record Whole (m : Kept) (before : List ℕ) (coming : List (List ℕ)) (o : 
   pub counts : o.kept.state
       ≡ state m.state.count (m.state.names + length coming) (m.state.text + text_wanted coming) (m.state.rows + rows_for m.state.names before coming)
 
-whole_none : (cur : List ℕ) (m : Kept) (before : List ℕ) → m.state.rows ≤ row_room m.rows → Whole m before [] (outcome answer.Done cur m)
+whole_none : (cur : List ℕ) (m : Kept) (before : List ℕ) → m.state.rows ≤ row_room m.rows → Whole m before [] (outcome (Ok None) cur m)
 unfolding NamesAre listed text_wanted rows_for
 whole_none cur m before room =
     record {
@@ -89,12 +89,12 @@ whole_more rules bytes dir cur m before s ss b o w =
 
 module _ (rules : Rules) (bytes dir : List ℕ) (directory : length dir ≡ 2580) (within : (i : ℕ) → i < 1290 → end_of dir i ≤ length bytes) where
   reads_done : (f : ℕ) (a : Answer) (cur : List ℕ) (m : Kept) (before : List ℕ) → Reached rules bytes dir cur m before []
-      → reads_from rules bytes dir (suc f) (outcome a cur m) ≡ outcome answer.Done cur m
+      → reads_from rules bytes dir (suc f) (outcome a cur m) ≡ outcome (Ok None) cur m
   unfolding reads_from go_on
   reads_done f a cur m before r = ap (λ (x : Outcome). go_on (reads_from rules bytes dir f) x x.answer) (done_back rules bytes dir cur m before directory within r)
 
   reads_more : (f : ℕ) (a : Answer) (cur : List ℕ) (m : Kept) (before s : List ℕ) (ss : List (List ℕ)) (b : ReadBack rules bytes dir cur m before s ss)
-      → reads_from rules bytes dir (suc f) (outcome a cur m) ≡ reads_from rules bytes dir f (outcome (answer.Kept m.state.names) b.now b.next)
+      → reads_from rules bytes dir (suc f) (outcome a cur m) ≡ reads_from rules bytes dir f (outcome (Ok (Some m.state.names)) b.now b.next)
   unfolding reads_from go_on
   reads_more f a cur m before s ss b = ap (λ (x : Outcome). go_on (reads_from rules bytes dir f) x x.answer) b.is
 
@@ -106,8 +106,8 @@ module _ (rules : Rules) (bytes dir : List ℕ) (directory : length dir ≡ 2580
   reads_back (s ∷ ss) (suc f) a cur m before h r =
       let b : ReadBack rules bytes dir cur m before s ss = read_back rules bytes dir cur m before directory within s ss r in
       rw (reads_more f a cur m before s ss b)
-      (whole_more rules bytes dir cur m before s ss b (reads_from rules bytes dir f (outcome (answer.Kept m.state.names) b.now b.next))
-      (reads_back ss f (answer.Kept m.state.names) b.now b.next s (omega arith) b.reached))
+      (whole_more rules bytes dir cur m before s ss b (reads_from rules bytes dir f (outcome (Ok (Some m.state.names)) b.now b.next))
+      (reads_back ss f (Ok (Some m.state.names)) b.now b.next s (omega arith) b.reached))
 
   -- the same reads, one a call
   once : (n : ℕ) (a : Answer) (cur : List ℕ) (m : Kept) (o : Outcome) → read_of (source rules bytes dir cur) m ≡ o → read_times rules bytes dir (suc n) (outcome a cur m) ≡ read_times rules bytes dir n o
@@ -116,7 +116,7 @@ module _ (rules : Rules) (bytes dir : List ℕ) (directory : length dir ≡ 2580
 
   -- the read after i others keeps name i
   pub calls_back : (coming : List (List ℕ)) (i : ℕ) (a : Answer) (cur : List ℕ) (m : Kept) (before : List ℕ) → i < length coming → Reached rules bytes dir cur m before coming
-      → ((read_times rules bytes dir (suc i) (outcome a cur m)).answer ≡ answer.Kept (m.state.names + i))
+      → ((read_times rules bytes dir (suc i) (outcome a cur m)).answer ≡ Ok (Some (m.state.names + i)))
       × NameIs (read_times rules bytes dir (suc i) (outcome a cur m)).kept (m.state.names + i) (get_or coming i [])
   unfolding read_times
   calls_back [] i a cur m before h r = absurd (omega arith)
@@ -128,20 +128,20 @@ module _ (rules : Rules) (bytes dir : List ℕ) (directory : length dir ≡ 2580
       let b : ReadBack rules bytes dir cur m before s ss = read_back rules bytes dir cur m before directory within s ss r in
       let names : b.next.state.names ≡ m.state.names + 1 = ap (λ (x : State). x.names) b.counts in
       let e : b.next.state.names + i ≡ m.state.names + suc i = omega arith in
-      let o : Outcome = outcome (answer.Kept m.state.names) b.now b.next in
-      let q = calls_back ss i (answer.Kept m.state.names) b.now b.next s (omega arith) b.reached in
+      let o : Outcome = outcome (Ok (Some m.state.names)) b.now b.next in
+      let q = calls_back ss i (Ok (Some m.state.names)) b.now b.next s (omega arith) b.reached in
       rw (once (suc i) a cur m o b.is)
-      (q.0 ∙ ap answer.Kept e, subst (λ (n : ℕ). NameIs (read_times rules bytes dir (suc i) o).kept n (get_or ss i [])) e q.1)
+      (q.0 ∙ ap (λ (k : ℕ). Ok (Some k)) e, subst (λ (n : ℕ). NameIs (read_times rules bytes dir (suc i) o).kept n (get_or ss i [])) e q.1)
 
   -- and one more is done, with all of them kept
   pub calls_done : (coming : List (List ℕ)) (a : Answer) (cur : List ℕ) (m : Kept) (before : List ℕ) → Reached rules bytes dir cur m before coming
-      → ((read_times rules bytes dir (suc (length coming)) (outcome a cur m)).answer ≡ answer.Done)
+      → ((read_times rules bytes dir (suc (length coming)) (outcome a cur m)).answer ≡ Ok None)
       × ((read_times rules bytes dir (suc (length coming)) (outcome a cur m)).kept.state.names ≡ m.state.names + length coming)
   unfolding read_times
   calls_done [] a cur m before r = rw (done_back rules bytes dir cur m before directory within r) (refl, sym (add-zero m.state.names))
   calls_done (s ∷ ss) a cur m before r =
       let b : ReadBack rules bytes dir cur m before s ss = read_back rules bytes dir cur m before directory within s ss r in
       let names : b.next.state.names ≡ m.state.names + 1 = ap (λ (x : State). x.names) b.counts in
-      let q = calls_done ss (answer.Kept m.state.names) b.now b.next s b.reached in
-      rw (once (suc (length ss)) a cur m (outcome (answer.Kept m.state.names) b.now b.next) b.is)
+      let q = calls_done ss (Ok (Some m.state.names)) b.now b.next s b.reached in
+      rw (once (suc (length ss)) a cur m (outcome (Ok (Some m.state.names)) b.now b.next) b.is)
       (q.0, q.1 ∙ omega arith)

@@ -1,6 +1,7 @@
 -- Demand 2 of the code: whatever meets the contract of writing and is accepted, reads that meet their contracts give back, a whole block or one name a call,
 -- from any bytes that begin with the total that was written.
 use Prim.Native.Nat.{ℕ, zero, suc, ◌+◌}
+use Rattle.std.specs.Prelude.{Some, None, Ok}
 use mathlib.Core.Path.{◌≡◌, refl, sym, ap, ◌∙◌, subst}
 use mathlib.Core.List.{List, []}
 use native.Mathlib.Numerals.{add-one}
@@ -8,7 +9,6 @@ use lib.ListN.{length, get_or, take}
 use Rattle.block.specs.Block.{state, starts}
 use Rattle.tables.specs.Tables.{keeping}
 use Rattle.sources.specs.Source.{source}
-use Rattle.entries.specs.declared.Answer.TheVariants as answer
 use Rattle.outcomes.specs.Outcomes.{Outcome, outcome}
 use Rattle.reads.specs.Reads.{read_of}
 use Rattle.reading.specs.Blocks.{block_of}
@@ -36,15 +36,15 @@ seen_times rules bytes dir (suc n) o f = seen_times rules bytes dir n (λ i. o (
 pub code_reads_one_by_one : CodeReadsOneByOne
 code_reads_one_by_one rules input dir bytes d w n total e b s text table rows r o z f =
     let same : Begins total (write_of rules input dir bytes).bytes b = s ∙ ap (λ (x : Writing). take total x.bytes) e in
-    let begun : List ℕ → Outcome = λ x. outcome answer.Done (starts x) (keeping (state n 0 0 0) text table rows) in
+    let begun : List ℕ → Outcome = λ x. outcome (Ok None) (starts x) (keeping (state n 0 0 0) text table rows) in
     let whole : OneByOne rules (names_of input) b d (begun d) =
     subst (λ (x : Writing). OneByOne rules (names_of input) b x.directory (begun x.directory)) (sym e)
     (reads_one_by_one rules input dir bytes n total (ap (λ (x : Writing). x.answer) (sym e)) b same text table rows r) in
     let next : (i : ℕ) → o (suc i) ≡ read_of (source rules b d (o i).cur) (o i).kept = λ i. ap o (sym (add-one i)) ∙ f i in
     let times : (i : ℕ) → read_times rules b d i (begun d) ≡ o i = λ i. sym (seen_times rules b d i o next ∙ ap (read_times rules b d i) z) in (
       λ i h. (
-        subst (λ (x : Outcome). x.answer ≡ answer.Kept i) (times (i + 1)) (whole.answers i h),
+        subst (λ (x : Outcome). x.answer ≡ Ok (Some i)) (times (i + 1)) (whole.answers i h),
         subst (λ (x : Outcome). NameIs x.kept i (get_or (names_of input) i [])) (times (i + 1)) (whole.keeps i h),
       ),
-      subst (λ (x : Outcome). x.answer ≡ answer.Done) (times (length (names_of input) + 1)) whole.done,
+      subst (λ (x : Outcome). x.answer ≡ Ok None) (times (length (names_of input) + 1)) whole.done,
     )

@@ -1,5 +1,6 @@
 -- The writer's input: the names that it has, each with its byte 10, are the input.
 use Prim.Native.Nat.{ℕ, ◌+◌, ◌-◌, ◌*◌, ◌≤◌}
+use Rattle.std.specs.Prelude.{Some, None}
 use mathlib.Core.Path.{◌≡◌, refl, sym, ap, ◌∙◌}
 use mathlib.Core.Bool.{true, false}
 use mathlib.Core.List.{List, [], ◌∷◌, ◌++◌, append_assoc, append-nil}
@@ -10,7 +11,6 @@ use lib.ListN.{length, get_or, length-append}
 use Rattle.comparing.specs.Same.{same}
 use Rattle.base.proofs.Choice.{pick_true, pick_false, by_test, pick_holds}
 use Rattle.references.specs.References.{anew}
-use Rattle.inputs.specs.declared.Judged.TheVariants.{Fine, Bad}
 use Rattle.inputs.specs.Inputs.{names_after, names_of, ended, good_name, judged_from}
 use Rattle.inputs.proofs.Laws.{good_holds}
 use Rattle.roundtrip.specs.Room.{listed, text_wanted, rows_added, rows_for, rows_wanted}
@@ -20,13 +20,13 @@ use Rattle.roundtrip.proofs.Reading.{AllGood}
 pub good_is : (s : List ℕ) → good_name s ≡ true → Good s
 good_is s e = let g = good_holds s e in record { some = g.0; short = g.1.0; allowed = g.1.1 }
 
-pub all_good : (names : List (List ℕ)) (n : ℕ) → judged_from n names ≡ Fine → AllGood names
+pub all_good : (names : List (List ℕ)) (n : ℕ) → judged_from n names ≡ None → AllGood names
 unfolding judged_from AllGood
 all_good [] n e = tt
 all_good (s ∷ ss) n e =
     by_test (good_name s)
-    (λ t. (good_is s t, all_good ss (n + 1) (sym (pick_true (judged_from (n + 1) ss) (Bad n) t) ∙ e)))
-    (λ t. let q : Bad n ≡ Fine = sym (pick_false (judged_from (n + 1) ss) (Bad n) t) ∙ e in let z : ◌≡◌ {A = ℕ} 0 1 = cc in absurd (omega arith))
+    (λ t. (good_is s t, all_good ss (n + 1) (sym (pick_true (judged_from (n + 1) ss) (Some n) t) ∙ e)))
+    (λ t. let q : Some n ≡ None = sym (pick_false (judged_from (n + 1) ss) (Some n) t) ∙ e in cc)
 
 -- the bytes of text that names want are all of them with their bytes 10
 pub listed_length : (names : List (List ℕ)) → length (listed names) ≡ text_wanted names

@@ -1,5 +1,6 @@
 -- A name that was read is kept: its entry says where it stands, its rows are those of its split, and what was kept before stays.
 use Prim.Native.Nat.{ℕ, ◌+◌, ◌*◌, ◌≤◌, ◌<◌}
+use Rattle.std.specs.Prelude.{Some, Ok}
 use mathlib.Core.Path.{◌≡◌, refl, sym, ap, ap₂, ◌∙◌, subst}
 use mathlib.Core.List.{List, [], ◌∷◌, ◌++◌}
 use native.Mathlib.Omega.{arith}
@@ -18,7 +19,6 @@ use Rattle.kept.proofs.Frame.{entry_holds}
 use Rattle.kept.proofs.Later.{Later, entry_later}
 use Rattle.sources.specs.Source.{Source, earlier}
 use Rattle.names.specs.Names.{Draft}
-use Rattle.entries.specs.declared.Answer.TheVariants as answer
 use Rattle.outcomes.specs.Outcomes.{outcome}
 use Rattle.outcomes.specs.Keeping.{room_for, kept, keep_of}
 use Rattle.entries.specs.Entries.{entry_of}
@@ -97,7 +97,7 @@ module _ (m : Kept) (s : List ℕ) (d : Draft) (text : d.text ≡ s) (whole : le
   text_length_law : length d.text ≡ length s
   text_length_law = ap length text
 
-  pub kept_back : (src : Source) → keep_of src m d first many distance ≡ outcome (answer.Kept m.state.names) d.cur after
+  pub kept_back : (src : Source) → keep_of src m d first many distance ≡ outcome (Ok (Some m.state.names)) d.cur after
   unfolding keep_of kept room_for
   kept_back src =
       pick_true _ _

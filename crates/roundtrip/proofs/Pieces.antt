@@ -16,7 +16,9 @@ use Rattle.digits.specs.Digits.{fits_width, value_of, all_digits}
 use Rattle.base.proofs.Every.{every_at}
 use Rattle.base.proofs.Lists.{part_first, part_none}
 use Rattle.digits.proofs.Laws.{value_below, padded_value, printed_value, fits_of, fits_nine}
-use Rattle.classes.specs.Classes.{digit_class, is_allowed, all_allowed, class_of}
+use Rattle.classes.specs.declared.Class.TheVariants.{Digit}
+use Rattle.classes.specs.Classes.{is_allowed, all_allowed, class_of, same_class}
+use Rattle.classes.proofs.Laws.{same_true}
 use Rattle.tables.specs.declared.Row.{Row}
 use Rattle.pieces.specs.declared.Piece.{Piece}
 use Rattle.pieces.specs.declared.Piece.TheVariants.{String, Char, Digits, Digits0}
@@ -73,7 +75,7 @@ module _ (s : List ℕ) (good : all_allowed s ≡ true) (at : ℕ) where
       })
 
   module _ (h : at < length s) where
-    number_cut : class_of (get_or s at 0) ≡ digit_class → Cut s at (run_at s at) (number_piece s at (run_at s at))
+    number_cut : class_of (get_or s at 0) ≡ Digit → Cut s at (run_at s at) (number_piece s at (run_at s at))
     unfolding number_piece piece_bytes
     number_cut e =
         let end : ℕ = run_at s at in
@@ -104,8 +106,8 @@ module _ (s : List ℕ) (good : all_allowed s ≡ true) (at : ℕ) where
         (λ t. rw (cut_last s at h p (eqb-true _ _ t)) (text_cut (length s) h (omega arith)))
         (λ t.
         rw (cut_run s at h p (eqb-false _ _ t))
-        (pick_holds (Cut s at (run_at s at)) (eqb (class_of (get_or s at 0)) digit_class) _ _
-        (λ g. number_cut (eqb-true _ _ g))
+        (pick_holds (Cut s at (run_at s at)) (same_class (class_of (get_or s at 0)) Digit) _ _
+        (λ g. number_cut (same_true _ _ g))
         (λ g. text_cut (run_at s at) r.0 r.1)))
 
 -- The rows one by one

@@ -1,5 +1,8 @@
 -- One read of written streams: it keeps the next name, and the streams are left as the names after it put them.
 use Prim.Native.Nat.{ℕ, suc, ◌+◌, ◌-◌, ◌*◌, ◌≤◌, ◌<◌}
+use Rattle.distances.specs.Distances.{Head}
+use Rattle.std.specs.Prelude.{Some, None, Ok}
+use Rattle.distances.specs.declared.Reference.TheVariants as reference
 use mathlib.Core.Path.{◌≡◌, refl, sym, ap, ◌∙◌, subst}
 use mathlib.Core.Bool.{true, false}
 use mathlib.Core.List.{List, [], ◌∷◌, ◌++◌}
@@ -27,9 +30,6 @@ use Rattle.kept.specs.Inside.{Counted}
 use Rattle.numbering.specs.Types.{Rules}
 use Rattle.sources.specs.Source.{Source, source, Earlier, earlier}
 use Rattle.names.specs.Names.{Draft, draft, name_of}
-use Rattle.distances.specs.declared.Head.{Head}
-use Rattle.distances.specs.declared.Head.TheVariants as head
-use Rattle.entries.specs.declared.Answer.TheVariants as answer
 use Rattle.earlier.specs.Fits.{AllFit}
 use Rattle.outcomes.specs.Outcomes.{outcome}
 use Rattle.heads.specs.Heads.{head_of, head_past}
@@ -41,7 +41,7 @@ use Rattle.inner.specs.Next.{headed_of, next_of}
 use Rattle.reads.specs.Reads.{read_of}
 use Rattle.heads.proofs.Heads.{head_same}
 use Rattle.reads.proofs.Holding.{next_holds, read_next}
-use Rattle.references.specs.declared.Reference.TheVariants.{Dup, Diff}
+use Rattle.distances.specs.declared.Reference.TheVariants.{Dup, Diff}
 use Rattle.references.specs.References.{anew, reference_of, leans_on}
 use Rattle.choices.specs.Choices.{choices_of}
 use Rattle.laying.specs.Puts.{Put, put}
@@ -77,7 +77,7 @@ pub record Reached (rules : Rules) (bytes dir cur : List ℕ) (m : Kept) (before
 pub record ReadBack (rules : Rules) (bytes dir cur : List ℕ) (m : Kept) (before s : List ℕ) (ss : List (List ℕ)) : Type 0 where
   pub now : List ℕ
   pub next : Kept
-  pub is : read_of (source rules bytes dir cur) m ≡ outcome (answer.Kept m.state.names) now next
+  pub is : read_of (source rules bytes dir cur) m ≡ outcome (Ok (Some m.state.names)) now next
   pub reached : Reached rules bytes dir now next s ss
   pub stays : Later m next
   pub entry : EntryIs next m.state.names s
@@ -134,7 +134,7 @@ module _ (rules : Rules) (bytes dir cur : List ℕ) (m : Kept) (before : List �
   judged coming r = read_next rules bytes dir cur m.text m.names m.rows m.state (opened coming r) r.counted
 
   -- with all names read, "done"
-  pub done_back : Reached rules bytes dir cur m before [] → read_of src m ≡ outcome answer.Done cur m
+  pub done_back : Reached rules bytes dir cur m before [] → read_of src m ≡ outcome (Ok None) cur m
   unfolding next_of puts_from
   done_back r =
       let all : m.state.count ≡ m.state.names + 0 = r.all in
@@ -196,7 +196,7 @@ module _ (rules : Rules) (bytes dir cur : List ℕ) (m : Kept) (before : List �
           let t : m.state.text + length d.text + 1 ≡ m.state.text + (length s + 1) = omega arith in
           let w : m.state.rows + d.count ≡ m.state.rows + rows_added k before s = ap (λ (x : ℕ). m.state.rows + x) count in
           let e : k + 1 - 1 ≡ k = omega arith in
-          let p : read_of src m ≡ outcome (answer.Kept k) d.cur then = q ∙ kept_back m s d text whole roomy fits enough first many distance src in
+          let p : read_of src m ≡ outcome (Ok (Some k)) d.cur then = q ∙ kept_back m s d text whole roomy fits enough first many distance src in
           let h = rw (sym (judged (s ∷ ss) r) ∙ p) at (next_holds rules bytes dir cur m.text m.names m.rows m.state (opened (s ∷ ss) r) r.counted) in
           record {
             now = d.cur;
@@ -235,7 +235,7 @@ module _ (rules : Rules) (bytes dir cur : List ℕ) (m : Kept) (before : List �
         subst (λ (x : List ℕ). RowsOf (earlier m.text m.rows entry.first entry.rows) m.state.text x) is was.1.rows in
         let f : length d.rows ≡ d.count = refl in
         kept_read d text f c entry.first entry.rows 1
-        (headed (head.Dup (record { 0 = 1 })) (dup_head_law rules bytes dir cur k 1 (omega arith) (puts_from rules (k + 1) s ss) (omega arith) h l)
+        (headed (Ok (reference.Dup (record { 0 = 1 }))) (dup_head_law rules bytes dir cur k 1 (omega arith) (puts_from rules (k + 1) s ss) (omega arith) h l)
         ∙ pick_true _ _ (r.fits (k - 1) (omega arith)))
         (head_past_law rules bytes dir cur rules.numbers.dup dup_stream 1 (omega arith) (omega arith) (omega arith) (puts_from rules (k + 1) s ss) l)
         (rows_old m s d text f (roomy d text f c entry.first entry.rows 1) (fits d text f c entry.first entry.rows 1)
@@ -274,7 +274,7 @@ module _ (rules : Rules) (bytes dir cur : List ℕ) (m : Kept) (before : List �
         let l : Left bytes dir cur (put (span_of 0 type_stream) (rules.numbers.diff ∷ []) ∷ put (span_of 0 diff_stream) (four_bytes 0) ∷ (token_puts rules s 1 (choices_of [] s) ++ puts_from rules (k + 1) s ss)) =
         puts _ (puts_first rules k before s a) in
         diff_back 0 (none m) [] (every_none is_allowed) (rows_nothing m.text m.rows m.state.text) (added_first rules k before s a)
-        (headed (head.Diff (record { 0 = 0 })) (diff_head_law rules bytes dir cur k 0 (omega arith) (token_puts rules s 1 (choices_of [] s) ++ puts_from rules (k + 1) s ss) (omega arith) l)
+        (headed (Ok (reference.Diff (record { 0 = 0 }))) (diff_head_law rules bytes dir cur k 0 (omega arith) (token_puts rules s 1 (choices_of [] s) ++ puts_from rules (k + 1) s ss) (omega arith) l)
         ∙ pick_true _ _ (eq-eqb 0 0 refl))
         (head_past_law rules bytes dir cur rules.numbers.diff diff_stream 0 (omega arith) (omega arith) (omega arith) (token_puts rules s 1 (choices_of [] s) ++ puts_from rules (k + 1) s ss) l)
 
@@ -285,7 +285,7 @@ module _ (rules : Rules) (bytes dir cur : List ℕ) (m : Kept) (before : List �
         puts _ (puts_diff rules k before s a q) in
         let was = r.last h in
         diff_back 1 (rows_of m (entry_back m 1)) before was.0.allowed was.1.rows (added_diff rules k before s a q)
-        (headed (head.Diff (record { 0 = 1 })) (diff_head_law rules bytes dir cur k 1 (omega arith) (token_puts rules s 1 (choices_of before s) ++ puts_from rules (k + 1) s ss) h l)
+        (headed (Ok (reference.Diff (record { 0 = 1 }))) (diff_head_law rules bytes dir cur k 1 (omega arith) (token_puts rules s 1 (choices_of before s) ++ puts_from rules (k + 1) s ss) h l)
         ∙ pick_false _ _ (ne_eqb 1 0 (λ (w : 1 ≡ 0). omega arith)) ∙ pick_true _ _ (r.fits (k - 1) (omega arith)))
         (head_past_law rules bytes dir cur rules.numbers.diff diff_stream 1 (omega arith) (omega arith) (omega arith) (token_puts rules s 1 (choices_of before s) ++ puts_from rules (k + 1) s ss) l)
 

@@ -1,5 +1,6 @@
 -- One token read back: where the streams hold what a right choice puts, the step gives the token, and the cursors move past what was put.
 use Prim.Native.Nat.{ℕ, ◌+◌, ◌-◌, ◌^◌, ◌≤◌, ◌<◌}
+use Rattle.std.specs.Prelude.{Some, Ok}
 use mathlib.Core.Path.{◌≡◌, refl, sym, ap, ◌∙◌}
 use mathlib.Core.Bool.{Bool, true, false}
 use mathlib.Core.List.{List, [], ◌∷◌, ◌++◌}
@@ -12,9 +13,7 @@ use Rattle.base.proofs.Choice.{pick_true}
 use Rattle.base.proofs.Holding.{holds_part, holds_first}
 use Rattle.digits.proofs.Laws.{length_padded}
 use Rattle.spans.specs.declared.Cursor.{Cursor}
-use Rattle.spans.specs.declared.NextByte.{NextByte}
-use Rattle.spans.specs.declared.NextFour.{NextFour}
-use Rattle.spans.specs.Spans.{cursor, four_bytes}
+use Rattle.spans.specs.Spans.{Next, cursor, four_bytes}
 use Rattle.block.specs.Block.{span_of, cursor_of}
 use Rattle.block.proofs.Laws.{span_below, span_stream}
 use Rattle.block.specs.Streams.{string_stream, char_stream, digits0_stream, dzlen_stream, digits_stream, ddelta_stream, ddelta0_stream}
@@ -25,7 +24,6 @@ use Rattle.tokens.specs.declared.Token.{Token}
 use Rattle.tokens.specs.declared.Token.TheVariants as token
 use Rattle.tokens.specs.Tokens.{bytes_of, kind_of, number_of, width_of, length_of, row_of}
 use Rattle.tables.specs.declared.Row.{Row}
-use Rattle.values.specs.declared.Step.TheVariants as step
 use Rattle.sources.specs.Source.{Source, source, Earlier, byte_in}
 use Rattle.values.specs.Values.{string_step, char_step, digits_step, with_width, padded_of, padded_step, digits0_step}
 use Rattle.sums.specs.Sums.{delta_step, delta0_step}
@@ -74,7 +72,7 @@ module _ (bytes text s : List ℕ) where
 pub record Valued (s : Source) (e : Earlier) (p : ℕ) (now : List ℕ) (k : Cursor) (ty : TokenType) (vs : List Put) (name : List ℕ) (x : Piece) : Type 0 where
   pub token : Token
   pub next : Cursor
-  pub gives : value_step s e p k ty ≡ step.Got token next
+  pub gives : value_step s e p k ty ≡ Ok (Some (token, next))
   pub same : Same s.bytes e.text name x token
   pub moved : value_past ty p next.0 now ≡ eaten now vs
 
@@ -158,8 +156,8 @@ module _ (rules : Rules) (bytes dir cur : List ℕ) (e : Earlier) (p : ℕ) (low
         token = token.Digits0 x;
         next = c;
         gives =
-            ap (λ (y : NextFour). digits0_step (padded_of y (byte_in src p dzlen_stream))) (four_first rules bytes dir cur p 3 n (omega (arith, small.0)) f)
-            ∙ ap (λ (y : NextByte). digits0_step (with_width n c y)) (byte_first rules bytes dir cur p 4 w h)
+            ap (λ (y : Next). digits0_step (padded_of y (byte_in src p dzlen_stream))) (four_first rules bytes dir cur p 3 n (omega (arith, small.0)) f)
+            ∙ ap (λ (y : Next). digits0_step (with_width n c y)) (byte_first rules bytes dir cur p 4 w h)
             ∙ pick_true _ _ small.1.0;
         same = digits0_same bytes e.text s x;
         moved = ap (λ (m : List ℕ). past m (span_of p dzlen_stream) 1) (set_past 3 4 (cursor_of cur (span_of p digits0_stream) + 4) (omega arith) (omega arith) refl);

@@ -1,5 +1,7 @@
 -- Demand 2, "given room, reading those gives the same names back": whatever writing accepts, the whole-block read of what it wrote gives again.
 use Prim.Native.Nat.{ℕ, suc, ◌+◌, ◌*◌, ◌≤◌, ◌<◌}
+use Rattle.std.specs.Prelude.{Some, None, Ok, Err}
+use Rattle.refusals.specs.declared.Reason.TheVariants as reason
 use mathlib.Core.Path.{◌≡◌, refl, sym, ap, ◌∙◌, subst}
 use mathlib.Core.Bool.{true}
 use mathlib.Core.List.{List, []}
@@ -15,26 +17,20 @@ use Rattle.base.specs.Memory.{part}
 use Rattle.base.proofs.Choice.{pick_true, pick_false, both_true, by_test}
 use Rattle.base.proofs.Holding.{holds_part}
 use Rattle.block.specs.declared.State.{State}
-use Rattle.block.specs.declared.Opened.TheVariants as opened
-use Rattle.block.specs.declared.Refusal.{Refusal}
-use Rattle.block.specs.declared.Refusal.TheVariants.{Plain, At}
+use Rattle.refusals.specs.declared.Refusal.{Refusal}
+use Rattle.refusals.specs.declared.Refusal.TheVariants.{Plain, At}
 use Rattle.block.specs.Block.{Opening, opening, open_of, end_of, sound, starts, state}
 use Rattle.block.proofs.Laws.{sound_of, opens_fresh}
 use Rattle.kept.proofs.Laws.{fresh_counted}
 use Rattle.tables.specs.Tables.{entry_size, Kept, keeping, Table, row_room}
 use Rattle.sources.specs.Source.{source}
-use Rattle.entries.specs.declared.Answer.TheVariants as answer
 use Rattle.outcomes.specs.Outcomes.{Outcome, outcome}
 use Rattle.reads.specs.Reads.{reads_from}
 use Rattle.reading.specs.Blocks.{opened_of, block_of}
 use Rattle.laying.specs.Puts.{directory_of, total_of, bytes_of}
-use Rattle.inputs.specs.declared.Judged.{Judged}
-use Rattle.inputs.specs.declared.Judged.TheVariants.{Fine, Bad}
-use Rattle.writing.specs.declared.WriteAnswer.{WriteAnswer}
-use Rattle.writing.specs.declared.WriteAnswer.TheVariants.{Written, Refused}
-use Rattle.inputs.specs.Inputs.{names_after, names_of, ended, judged_from}
+use Rattle.inputs.specs.Inputs.{Judged, names_after, names_of, ended, judged_from}
 use Rattle.nameputs.specs.NamePuts.{puts_of}
-use Rattle.writing.specs.Writes.{Writing, writing, countable, laid_of, judged_of, write_of}
+use Rattle.writing.specs.Writes.{WriteAnswer, Writing, writing, countable, laid_of, judged_of, write_of}
 use Rattle.roundtrip.specs.Room.{listed, text_wanted, rows_for, rows_wanted}
 use Rattle.roundtrip.specs.Back.{Roomy, NameIs, RowsAre, Back, InputBack, read_times, OneByOne}
 use Rattle.roundtrip.specs.Layout.{LaidOut}
@@ -47,7 +43,7 @@ use Rattle.roundtrip.proofs.Inputs.{all_good, listed_length, listed_back, text_m
 use Rattle.numbering.specs.Types.{Rules}
 
 -- good names, few enough, and bytes that begin with what they put, written where there was room
-module _ (rules : Rules) (names : List (List ℕ)) (fine : judged_from 0 names ≡ Fine) (few : length names ≤ 65536) (bytes : List ℕ) (room : total_of (puts_of rules names) ≤ length bytes)
+module _ (rules : Rules) (names : List (List ℕ)) (fine : judged_from 0 names ≡ None) (few : length names ≤ 65536) (bytes : List ℕ) (room : total_of (puts_of rules names) ≤ length bytes)
     (all : List ℕ) (same : Begins (total_of (puts_of rules names)) (bytes_of (puts_of rules names) bytes) all) where
   abbrev dir : List ℕ
   dir = directory_of (puts_of rules names)
@@ -62,7 +58,7 @@ module _ (rules : Rules) (names : List (List ℕ)) (fine : judged_from 0 names �
       within
 
   -- opening accepts them
-  pub opens : (cur : List ℕ) → length cur ≡ 1290 → open_of (length all) dir (length names) cur ≡ opening (opened.Fresh (state (length names) 0 0 0)) (starts dir)
+  pub opens : (cur : List ℕ) → length cur ≡ 1290 → open_of (length all) dir (length names) cur ≡ opening (Ok (state (length names) 0 0 0)) (starts dir)
   opens cur t = sym (opens_fresh (length all) dir (length names) cur (sounds cur t) few)
 
   module _ (text table : List ℕ) (rows : Table) where
@@ -86,10 +82,10 @@ module _ (rules : Rules) (names : List (List ℕ)) (fine : judged_from 0 names �
         }
 
     abbrev result : Outcome
-    result = reads_from rules all dir (length names + 1) (outcome answer.Done (starts dir) fresh)
+    result = reads_from rules all dir (length names + 1) (outcome (Ok None) (starts dir) fresh)
 
     reads : Roomy names fresh → Whole fresh [] names result
-    reads r = reads_back rules all dir (directory_length (puts_of rules names)) within names (length names + 1) answer.Done (starts dir) fresh [] (omega arith) (begun r)
+    reads r = reads_back rules all dir (directory_length (puts_of rules names)) within names (length names + 1) (Ok None) (starts dir) fresh [] (omega arith) (begun r)
 
     results : Roomy names fresh → Back names result
     unfolding rows_wanted
@@ -118,36 +114,44 @@ module _ (rules : Rules) (names : List (List ℕ)) (fine : judged_from 0 names �
 
   -- and so does reading them one a call, from the cursors and the state that opening leaves
   pub calls_names : (text table : List ℕ) (rows : Table) → Roomy names (keeping (state (length names) 0 0 0) text table rows)
-      → OneByOne rules names all dir (outcome answer.Done (starts dir) (keeping (state (length names) 0 0 0) text table rows))
+      → OneByOne rules names all dir (outcome (Ok None) (starts dir) (keeping (state (length names) 0 0 0) text table rows))
   calls_names text table rows r =
       let d = directory_length (puts_of rules names) in
       let m : Kept = keeping (state (length names) 0 0 0) text table rows in
-      let o : Outcome = outcome answer.Done (starts dir) m in
-      let one : (i : ℕ) → i < length names → ((read_times rules all dir (suc i) o).answer ≡ answer.Kept (0 + i)) × NameIs (read_times rules all dir (suc i) o).kept (0 + i) (get_or names i []) =
-      λ i h. calls_back rules all dir d within names i answer.Done (starts dir) m [] h (begun text table rows r) in
-      let last = calls_done rules all dir d within names answer.Done (starts dir) m [] (begun text table rows r) in
+      let o : Outcome = outcome (Ok None) (starts dir) m in
+      let one : (i : ℕ) → i < length names → ((read_times rules all dir (suc i) o).answer ≡ Ok (Some (0 + i))) × NameIs (read_times rules all dir (suc i) o).kept (0 + i) (get_or names i []) =
+      λ i h. calls_back rules all dir d within names i (Ok None) (starts dir) m [] h (begun text table rows r) in
+      let last = calls_done rules all dir d within names (Ok None) (starts dir) m [] (begun text table rows r) in
       record {
-        answers = λ i h. ap (λ (n : ℕ). (read_times rules all dir n o).answer) (add-one i) ∙ (one i h).0 ∙ ap answer.Kept (zero-add i);
+        answers = λ i h. ap (λ (n : ℕ). (read_times rules all dir n o).answer) (add-one i) ∙ (one i h).0 ∙ ap (λ (k : ℕ). Ok (Some k)) (zero-add i);
         keeps = λ i h. rw add-one (subst (λ (n : ℕ). NameIs (read_times rules all dir (suc i) o).kept n (get_or names i [])) (zero-add i) (one i h).1);
         done = ap (λ (n : ℕ). (read_times rules all dir n o).answer) (add-one (length names)) ∙ last.0;
         count = ap (λ (n : ℕ). (read_times rules all dir n o).kept.state.names) (add-one (length names)) ∙ last.1 ∙ zero-add (length names);
       }
 
 -- room that always suffices: 255 bytes of text, an entry and 127 rows a name
-pub roomy_most : (names : List (List ℕ)) (m : Kept) → judged_from 0 names ≡ Fine → 255 * length names ≤ length m.text → entry_size * length names ≤ length m.names
+pub roomy_most : (names : List (List ℕ)) (m : Kept) → judged_from 0 names ≡ None → 255 * length names ≤ length m.text → entry_size * length names ≤ length m.names
     → 127 * length names ≤ row_room m.rows → Roomy names m
 roomy_most names m fine t e r =
     record { text = omega (arith, text_most names (all_good names 0 fine)); entries = e; rows = omega (arith, rows_most_law names) }
 
 -- What an accepted writing tells
 
--- a refusal is no accepted writing
-refused_not : {n total : ℕ} (w : Writing) {dir bytes : List ℕ} (r : Refusal) → w ≡ writing (Refused r) dir bytes → w.answer ≡ Written n total → ⊥
-refused_not {n} {total} w r e q =
-    let z : Refused r ≡ Written n total = sym (ap (λ (x : Writing). x.answer) e) ∙ q in
-    let y : ◌≡◌ {A = ℕ} 0 1 = cc in omega arith
+names_said : WriteAnswer → ℕ
+names_said (Ok w) = w.names
+names_said (Err r) = 0
 
-module _ (rules : Rules) (input dir bytes : List ℕ) (n total : ℕ) (e : (write_of rules input dir bytes).answer ≡ Written n total) where
+bytes_said : WriteAnswer → ℕ
+bytes_said (Ok w) = w.bytes
+bytes_said (Err r) = 0
+
+-- a refusal is no accepted writing
+refused_not : {n total : ℕ} (w : Writing) {dir bytes : List ℕ} (r : Refusal) → w ≡ writing (Err r) dir bytes → w.answer ≡ Ok (record { names = n; bytes = total }) → ⊥
+refused_not {n} {total} w r e q =
+    let z : ◌≡◌ {A = WriteAnswer} (Err r) (Ok (record { names = n; bytes = total })) = sym (ap (λ (x : Writing). x.answer) e) ∙ q in
+    cc
+
+module _ (rules : Rules) (input dir bytes : List ℕ) (n total : ℕ) (e : (write_of rules input dir bytes).answer ≡ Ok (record { names = n; bytes = total })) where
   abbrev names : List (List ℕ)
   names = names_of input
 
@@ -155,28 +159,28 @@ module _ (rules : Rules) (input dir bytes : List ℕ) (n total : ℕ) (e : (writ
   unfolding countable
   counted c = let b = both_true (ended input) (leb (length names) 65536) c in (b.0, leb-true _ _ b.1)
 
-  by_room : countable input ≡ true → judged_from 0 names ≡ Fine → write_of rules input dir bytes ≡ laid_of rules names dir bytes → Accepted rules input dir bytes n total
-  unfolding laid_of
+  by_room : countable input ≡ true → judged_from 0 names ≡ None → write_of rules input dir bytes ≡ laid_of rules names dir bytes → Accepted rules input dir bytes n total
+  unfolding laid_of names_said bytes_said
   by_room c f w =
       by_test (leb (total_of (puts_of rules names)) (length bytes))
       (λ t.
-      let q : write_of rules input dir bytes ≡ writing (Written (length names) (total_of (puts_of rules names))) (directory_of (puts_of rules names)) (bytes_of (puts_of rules names) bytes) = w ∙ pick_true _ _ t in
-      let z : Written (length names) (total_of (puts_of rules names)) ≡ Written n total = sym (ap (λ (x : Writing). x.answer) q) ∙ e in
+      let q : write_of rules input dir bytes ≡ writing (Ok (record { names = length names; bytes = total_of (puts_of rules names) })) (directory_of (puts_of rules names)) (bytes_of (puts_of rules names) bytes) = w ∙ pick_true _ _ t in
+      let z : ◌≡◌ {A = WriteAnswer} (Ok (record { names = length names; bytes = total_of (puts_of rules names) })) (Ok (record { names = n; bytes = total })) = sym (ap (λ (x : Writing). x.answer) q) ∙ e in
       record {
         ends = (counted c).0;
         few = (counted c).1;
         fine = f;
         room = leb-true _ _ t;
-        names = cc;
-        sum = cc;
+        names = sym (ap names_said z);
+        sum = sym (ap bytes_said z);
         is = q ∙ ap (λ (x : WriteAnswer). writing x (directory_of (puts_of rules names)) (bytes_of (puts_of rules names) bytes)) z;
       })
-      (λ t. absurd (refused_not (write_of rules input dir bytes) (Plain 9) (w ∙ pick_false _ _ t) e))
+      (λ t. absurd (refused_not (write_of rules input dir bytes) (Plain reason.NoRoom) (w ∙ pick_false _ _ t) e))
 
   by_judgement : countable input ≡ true → (j : Judged) → judged_from 0 names ≡ j → write_of rules input dir bytes ≡ judged_of rules j names dir bytes → Accepted rules input dir bytes n total
   unfolding judged_of
-  by_judgement c Fine f w = by_room c f w
-  by_judgement c (Bad k) f w = absurd (refused_not (write_of rules input dir bytes) (At 8 k) w e)
+  by_judgement c None f w = by_room c f w
+  by_judgement c (Some k) f w = absurd (refused_not (write_of rules input dir bytes) (At reason.BadName k) w e)
 
   pub accepted : Accepted rules input dir bytes n total
   unfolding write_of
@@ -185,8 +189,8 @@ module _ (rules : Rules) (input dir bytes : List ℕ) (n total : ℕ) (e : (writ
       (λ a.
       by_test (countable input)
       (λ c. by_judgement c (judged_from 0 names) refl (pick_true _ _ a ∙ pick_true _ _ c))
-      (λ c. absurd (refused_not (write_of rules input dir bytes) (Plain 12) (pick_true _ _ a ∙ pick_false _ _ c) e)))
-      (λ a. absurd (refused_not (write_of rules input dir bytes) (Plain 1) (pick_false _ _ a) e))
+      (λ c. absurd (refused_not (write_of rules input dir bytes) (Plain reason.BadCount) (pick_true _ _ a ∙ pick_false _ _ c) e)))
+      (λ a. absurd (refused_not (write_of rules input dir bytes) (Plain reason.Unsound) (pick_false _ _ a) e))
 
   -- what was written is laid out span after span
   pub written_laid : LaidOut (puts_of rules names) (write_of rules input dir bytes).directory (write_of rules input dir bytes).bytes bytes total
@@ -199,7 +203,7 @@ module _ (rules : Rules) (input dir bytes : List ℕ) (n total : ℕ) (e : (writ
 
     -- opening them, with any cursor table
     pub written_opens : (cur : List ℕ) → length cur ≡ 1290
-        → open_of (length b) (write_of rules input dir bytes).directory n cur ≡ opening (opened.Fresh (state n 0 0 0)) (starts (write_of rules input dir bytes).directory)
+        → open_of (length b) (write_of rules input dir bytes).directory n cur ≡ opening (Ok (state n 0 0 0)) (starts (write_of rules input dir bytes).directory)
     written_opens cur t = rw (accepted.is, accepted.names) (opens rules names accepted.fine accepted.few bytes accepted.room b begins cur t)
 
     -- reading them, with room for the names, gives the names back
@@ -225,7 +229,7 @@ module _ (rules : Rules) (input dir bytes : List ℕ) (n total : ℕ) (e : (writ
     -- and one name a call
     pub written_calls : (text table : List ℕ) (rows : Table) → Roomy names (keeping (state n 0 0 0) text table rows)
         → OneByOne rules names b (write_of rules input dir bytes).directory
-        (outcome answer.Done (starts (write_of rules input dir bytes).directory) (keeping (state n 0 0 0) text table rows))
+        (outcome (Ok None) (starts (write_of rules input dir bytes).directory) (keeping (state n 0 0 0) text table rows))
     written_calls text table rows r =
         rw (accepted.is, accepted.names)
         (calls_names rules names accepted.fine accepted.few bytes accepted.room b begins text table rows (record { text = r.text; entries = r.entries; rows = r.rows }))
@@ -262,4 +266,4 @@ lays_out rules input dir bytes n total e = written_laid rules input dir bytes n 
 pub writes_nothing : Nothing
 unfolding names_of names_after ended judged_from countable pick
 writes_nothing rules dir bytes d =
-    accepts rules [] dir bytes d refl refl (omega (arith, nothing_put rules)) ∙ ap (Written 0) (nothing_put rules)
+    accepts rules [] dir bytes d refl refl (omega (arith, nothing_put rules)) ∙ ap (λ (b : ℕ). Ok (record { names = 0; bytes = b })) (nothing_put rules)

@@ -1,5 +1,7 @@
 -- One name read back: position by position its tokens come out, its text is the name, and its rows are those of its split.
 use Prim.Native.Nat.{ℕ, zero, suc, ◌+◌, ◌-◌, ◌*◌, ◌≤◌, ◌<◌}
+use Rattle.values.specs.Values.{Step}
+use Rattle.std.specs.Prelude.{Some, None, Ok}
 use mathlib.Core.Path.{◌≡◌, refl, sym, ap, ◌∙◌, subst}
 use mathlib.Core.Bool.{true}
 use mathlib.Core.Logic.{⊎_elim}
@@ -21,8 +23,6 @@ use Rattle.tokens.specs.declared.Token.{Token}
 use Rattle.tokens.specs.Tokens.{bytes_of}
 use Rattle.tables.specs.declared.Row.{Row}
 use Rattle.tables.proofs.Rows.{RowsHold, hold_none, hold_first, hold_rest}
-use Rattle.values.specs.declared.Step.{Step}
-use Rattle.values.specs.declared.Step.TheVariants as step
 use Rattle.sources.specs.Source.{Source, source, Earlier}
 use Rattle.repeats.specs.Repeats.{has_row, row_here}
 use Rattle.steps.specs.Steps.{step_at}
@@ -144,7 +144,7 @@ module _ (rules : Rules) (bytes dir cur : List ℕ) (e : Earlier) (used origin :
   end_spelt f n p a d h q t ahead l =
       let own : Left bytes dir d.cur (choice_puts rules s p End ++ rest) = subst (λ (ps : List Put). Left bytes dir d.cur (ps ++ rest)) (append-nil (choice_puts rules s p End)) l in
       let all : d.text ≡ s = t ∙ ap (λ (k : ℕ). take k s) q ∙ take-length s in
-      let z : step_at src e p ≡ step.End =
+      let z : step_at src e p ≡ Ok None =
       step_cursors rules bytes dir cur d.cur p (here_same p d.cur ahead) e ∙ ended_back rules bytes dir d.cur e p s rest h own in
       let m : length d.text ≡ length s = ap length all in
       record {
@@ -194,7 +194,7 @@ module _ (rules : Rules) (bytes dir cur : List ℕ) (e : Earlier) (used origin :
     abbrev got : Token
     got = token_back.token
 
-    gives : step_at src e p ≡ step.Got got token_back.next
+    gives : step_at src e p ≡ Ok (Some (got, token_back.next))
     gives = step_cursors rules bytes dir cur d.cur p (here_same p d.cur ahead) e ∙ token_back.gives
 
     prints : bytes_of bytes e.text got ≡ part s a c

@@ -1,12 +1,12 @@
 -- One position read back: its type, then its value, or END.
 use Prim.Native.Nat.{ℕ, ◌+◌, ◌≤◌, ◌<◌}
+use Rattle.std.specs.Prelude.{Some, None, Ok}
 use mathlib.Core.Path.{◌≡◌, refl, sym, ap, ◌∙◌, subst}
 use mathlib.Core.Bool.{false}
 use mathlib.Core.List.{List, [], ◌∷◌, ◌++◌}
 use native.Mathlib.Omega.{arith}
 use Rattle.base.proofs.Choice.{pick_true}
 use Rattle.spans.specs.declared.Cursor.{Cursor}
-use Rattle.spans.specs.declared.NextByte.TheVariants as byte
 use Rattle.spans.specs.Spans.{cursor}
 use Rattle.block.specs.Block.{span_of, cursor_of}
 use Rattle.block.proofs.Laws.{span_below}
@@ -15,7 +15,6 @@ use Rattle.numbering.specs.declared.TokenType.{TokenType}
 use Rattle.numbering.specs.declared.TokenType.TheVariants as type
 use Rattle.tokens.specs.declared.Token.{Token}
 use Rattle.numbering.proofs.Laws.{type_back}
-use Rattle.values.specs.declared.Step.TheVariants as step
 use Rattle.sources.specs.Source.{source, Earlier, byte_in}
 use Rattle.repeats.specs.Repeats.{row_here, match_at}
 use Rattle.steps.specs.Steps.{value_step, step_at}
@@ -76,7 +75,7 @@ module _ (rules : Rules) (bytes dir cur : List ℕ) (e : Earlier) (p : ℕ) (low
       record {
         token = r.token;
         next = k;
-        gives = pick_true _ _ right.0 ∙ ap (λ (t : Token). step.Got t k) r.again;
+        gives = pick_true _ _ right.0 ∙ ap (λ (t : Token). Ok (Some (t, k))) r.again;
         same = r.same;
         moved = refl;
       }
@@ -85,24 +84,24 @@ module _ (rules : Rules) (bytes dir cur : List ℕ) (e : Earlier) (p : ℕ) (low
 -- the writer's types are all in the table
 piece_known : (x : Piece) → piece_type x ≡ type.Other → ⊥
 unfolding piece_type
-piece_known (String a e) q = let z : ◌≡◌ {A = ℕ} 0 1 = cc in omega arith
-piece_known (Char b) q = let z : ◌≡◌ {A = ℕ} 0 1 = cc in omega arith
-piece_known (Digits n) q = let z : ◌≡◌ {A = ℕ} 0 1 = cc in omega arith
-piece_known (Digits0 x) q = let z : ◌≡◌ {A = ℕ} 0 1 = cc in omega arith
+piece_known (String a e) q = cc
+piece_known (Char b) q = cc
+piece_known (Digits n) q = cc
+piece_known (Digits0 x) q = cc
 
 choice_known : (c : Choice) → choice_type c ≡ type.Other → ⊥
 unfolding choice_type
 choice_known (Itself x) q = piece_known x q
-choice_known (Delta d) q = let z : ◌≡◌ {A = ℕ} 0 1 = cc in omega arith
-choice_known (Delta0 d) q = let z : ◌≡◌ {A = ℕ} 0 1 = cc in omega arith
-choice_known Match q = let z : ◌≡◌ {A = ℕ} 0 1 = cc in omega arith
-choice_known End q = let z : ◌≡◌ {A = ℕ} 0 1 = cc in omega arith
+choice_known (Delta d) q = cc
+choice_known (Delta0 d) q = cc
+choice_known Match q = cc
+choice_known End q = cc
 
 -- a token read back
 pub record Resolved (rules : Rules) (bytes dir cur : List ℕ) (e : Earlier) (p : ℕ) (s : List ℕ) (x : Piece) (c : Choice) : Type 0 where
   pub token : Token
   pub next : Cursor
-  pub gives : step_at (source rules bytes dir cur) e p ≡ step.Got token next
+  pub gives : step_at (source rules bytes dir cur) e p ≡ Ok (Some (token, next))
   pub same : Same bytes e.text s x token
   pub moved : value_past (type_at (source rules bytes dir cur) p) p next.0 (past cur (span_of p 0) 1) ≡ eaten cur (choice_puts rules s p c)
 
@@ -110,7 +109,7 @@ module _ (rules : Rules) (bytes dir cur : List ℕ) (e : Earlier) (p : ℕ) (s :
   abbrev number : ℕ
   number = type_number rules.numbers (choice_type c)
 
-  type_here : byte_in (source rules bytes dir cur) p 0 ≡ byte.Value number (cursor (cursor_of cur (span_of p 0) + 1))
+  type_here : byte_in (source rules bytes dir cur) p 0 ≡ Some (number, cursor (cursor_of cur (span_of p 0) + 1))
   unfolding choice_puts
   type_here = byte_first rules bytes dir cur p 0 number (first bytes dir cur (span_of p 0) (number ∷ []) (value_puts s p c ++ rest) (span_below p 0 high (omega arith)) l)
 
@@ -138,7 +137,7 @@ module _ (rules : Rules) (bytes dir cur : List ℕ) (e : Earlier) (p : ℕ) (s :
 
 -- END read back
 pub ended_back : (rules : Rules) (bytes dir cur : List ℕ) (e : Earlier) (p : ℕ) (s : List ℕ) (rest : List Put) → p ≤ 128 → Left bytes dir cur (choice_puts rules s p End ++ rest)
-    → step_at (source rules bytes dir cur) e p ≡ step.End
+    → step_at (source rules bytes dir cur) e p ≡ Ok None
 unfolding choice_type value_step
 ended_back rules bytes dir cur e p s rest high l = typed rules bytes dir cur e p s End rest high l (unbarred_end p)
 

@@ -1,9 +1,8 @@
 -- What it means that names were read back.
-use Rattle.std.specs.Prelude.{ℕ, zero, suc, ◌+◌, ◌*◌, ◌≤◌, ◌<◌, ◌≡◌, List, [], ◌∷◌, length, get_or}
+use Rattle.std.specs.Prelude.{ℕ, zero, suc, ◌+◌, ◌*◌, ◌≤◌, ◌<◌, ◌≡◌, List, [], ◌∷◌, length, get_or, Some, None, Ok}
 use Rattle.base.specs.Memory.{part}
 use Rattle.tables.specs.declared.Row.{Row}
 use Rattle.tables.specs.Tables.{Table, entry_size, Kept, entry_at, row_room, row_at}
-use Rattle.entries.specs.declared.Answer.TheVariants as answer
 use Rattle.sources.specs.Source.{source}
 use Rattle.outcomes.specs.Outcomes.{Outcome}
 use Rattle.reads.specs.Reads.{read_of}
@@ -38,7 +37,7 @@ pub record RowsAre (m : Kept) (i : ℕ) (s : List ℕ) : Type 0 where
 
 -- a whole-block read that is done, has kept these names in order and no others; its used text is all of them, each with its byte 10
 pub record Back (names : List (List ℕ)) (o : Outcome) : Type 0 where
-  pub answer : o.answer ≡ answer.Done
+  pub answer : o.answer ≡ Ok None
   pub count : o.kept.state.names ≡ length names
   pub each : (i : ℕ) → i < length names → NameIs o.kept i (get_or names i [])
   pub tokens : (i : ℕ) → i < length names → RowsAre o.kept i (get_or names i [])
@@ -59,7 +58,7 @@ read_times rules bytes dir (suc n) o = read_times rules bytes dir n (read_of (so
 
 -- names read one a call: read i, from 0 on, answers i and keeps name i, and one more read is done, with all of them kept and no others
 pub record OneByOne (rules : Rules) (names : List (List ℕ)) (bytes dir : List ℕ) (o : Outcome) : Type 0 where
-  pub answers : (i : ℕ) → i < length names → (read_times rules bytes dir (i + 1) o).answer ≡ answer.Kept i
+  pub answers : (i : ℕ) → i < length names → (read_times rules bytes dir (i + 1) o).answer ≡ Ok (Some i)
   pub keeps : (i : ℕ) → i < length names → NameIs (read_times rules bytes dir (i + 1) o).kept i (get_or names i [])
-  pub done : (read_times rules bytes dir (length names + 1) o).answer ≡ answer.Done
+  pub done : (read_times rules bytes dir (length names + 1) o).answer ≡ Ok None
   pub count : (read_times rules bytes dir (length names + 1) o).kept.state.names ≡ length names

@@ -1,15 +1,12 @@
 -- Demand 2: "Writing gives exactly the streams of document 01's writing rule; given room, reading those gives the same names back."
 -- The writing rule is read with C-14, by which names are split (splitting/specs/Rule, pieces/specs/Becomes).
-use Rattle.std.specs.Prelude.{ℕ, ◌+◌, ◌*◌, ◌≤◌, ◌<◌, ◌≡◌, List, [], length, get_or, take}
-use Rattle.block.specs.declared.Opened.TheVariants as opened
+use Rattle.std.specs.Prelude.{ℕ, ◌+◌, ◌*◌, ◌≤◌, ◌<◌, ◌≡◌, List, [], length, get_or, take, Some, None, Ok}
 use Rattle.block.specs.Block.{state, starts, opening, open_of}
 use Rattle.tables.specs.Tables.{entry_size, Kept, keeping, row_room, Table}
 use Rattle.sources.specs.Source.{source}
-use Rattle.entries.specs.declared.Answer.TheVariants as answer
 use Rattle.outcomes.specs.Outcomes.{Outcome, outcome}
 use Rattle.reads.specs.Reads.{read_of}
 use Rattle.reading.specs.Blocks.{block_of}
-use Rattle.writing.specs.declared.WriteAnswer.TheVariants.{Written}
 use Rattle.inputs.specs.Inputs.{names_of}
 use Rattle.writing.specs.Writes.{writing, write_of}
 use Rattle.nameputs.specs.NamePuts.{puts_of}
@@ -32,7 +29,7 @@ BeginsCut = (total : ℕ) (all : List ℕ) → Begins total all (take total all)
 -- with any cursor table of the right length and room for the names, gives the names back
 abbrev pub ReadsBack : Type 0
 ReadsBack =
-    (rules : Rules) (input dir bytes : List ℕ) (n total : ℕ) → (write_of rules input dir bytes).answer ≡ Written n total
+    (rules : Rules) (input dir bytes : List ℕ) (n total : ℕ) → (write_of rules input dir bytes).answer ≡ Ok (record { names = n; bytes = total })
     → (b : List ℕ) → Begins total (write_of rules input dir bytes).bytes b
     → (cur : List ℕ) (m : Kept) → length cur ≡ 1290 → Roomy (names_of input) m
     → InputBack input (block_of (source rules b (write_of rules input dir bytes).directory cur) m n)
@@ -40,7 +37,7 @@ ReadsBack =
 -- 255 bytes of text, an entry and 127 rows for each name are always room enough
 abbrev pub ReadsBackAmply : Type 0
 ReadsBackAmply =
-    (rules : Rules) (input dir bytes : List ℕ) (n total : ℕ) → (write_of rules input dir bytes).answer ≡ Written n total
+    (rules : Rules) (input dir bytes : List ℕ) (n total : ℕ) → (write_of rules input dir bytes).answer ≡ Ok (record { names = n; bytes = total })
     → (b : List ℕ) → Begins total (write_of rules input dir bytes).bytes b
     → (cur : List ℕ) (m : Kept) → length cur ≡ 1290 → 255 * n ≤ length m.text → entry_size * n ≤ length m.names → 127 * n ≤ row_room m.rows
     → InputBack input (block_of (source rules b (write_of rules input dir bytes).directory cur) m n)
@@ -48,35 +45,35 @@ ReadsBackAmply =
 -- and so does reading one name a call, from the state and the cursors that opening leaves
 abbrev pub ReadsOneByOne : Type 0
 ReadsOneByOne =
-    (rules : Rules) (input dir bytes : List ℕ) (n total : ℕ) → (write_of rules input dir bytes).answer ≡ Written n total
+    (rules : Rules) (input dir bytes : List ℕ) (n total : ℕ) → (write_of rules input dir bytes).answer ≡ Ok (record { names = n; bytes = total })
     → (b : List ℕ) → Begins total (write_of rules input dir bytes).bytes b
     → (text table : List ℕ) (rows : Table) → Roomy (names_of input) (keeping (state n 0 0 0) text table rows)
     → OneByOne rules (names_of input) b (write_of rules input dir bytes).directory
-    (outcome answer.Done (starts (write_of rules input dir bytes).directory) (keeping (state n 0 0 0) text table rows))
+    (outcome (Ok None) (starts (write_of rules input dir bytes).directory) (keeping (state n 0 0 0) text table rows))
 
 -- opening accepts what writing wrote, with any cursor table of the right length
 abbrev pub Opens : Type 0
 Opens =
-    (rules : Rules) (input dir bytes : List ℕ) (n total : ℕ) → (write_of rules input dir bytes).answer ≡ Written n total
+    (rules : Rules) (input dir bytes : List ℕ) (n total : ℕ) → (write_of rules input dir bytes).answer ≡ Ok (record { names = n; bytes = total })
     → (b : List ℕ) → Begins total (write_of rules input dir bytes).bytes b
     → (cur : List ℕ) → length cur ≡ 1290
     → open_of (length b) (write_of rules input dir bytes).directory n cur
-    ≡ opening (opened.Fresh (state n 0 0 0)) (starts (write_of rules input dir bytes).directory)
+    ≡ opening (Ok (state n 0 0 0)) (starts (write_of rules input dir bytes).directory)
 
 -- and what it wrote is laid out as the paper says; its total is the end of the last span, not any number
 abbrev pub LaysOut : Type 0
 LaysOut =
-    (rules : Rules) (input dir bytes : List ℕ) (n total : ℕ) → (write_of rules input dir bytes).answer ≡ Written n total
+    (rules : Rules) (input dir bytes : List ℕ) (n total : ℕ) → (write_of rules input dir bytes).answer ≡ Ok (record { names = n; bytes = total })
     → LaidOut (puts_of rules (names_of input)) (write_of rules input dir bytes).directory (write_of rules input dir bytes).bytes bytes total
 
 -- "No names: writing gives 0 bytes", with any directory of the right length and any bytes, none too
 abbrev pub Nothing : Type 0
-Nothing = (rules : Rules) (dir bytes : List ℕ) → length dir ≡ 2580 → (write_of rules [] dir bytes).answer ≡ Written 0 0
+Nothing = (rules : Rules) (dir bytes : List ℕ) → length dir ≡ 2580 → (write_of rules [] dir bytes).answer ≡ Ok (record { names = 0; bytes = 0 })
 
 -- The demand of the code: whatever meets the contract of writing and is accepted, a whole-block read that meets its contract gives back
 abbrev pub CodeReadsBack : Type 0
 CodeReadsBack =
-    (rules : Rules) (input dir bytes d w : List ℕ) (n total : ℕ) → writing (Written n total) d w ≡ write_of rules input dir bytes
+    (rules : Rules) (input dir bytes d w : List ℕ) (n total : ℕ) → writing (Ok (record { names = n; bytes = total })) d w ≡ write_of rules input dir bytes
     → (b : List ℕ) → Begins total w b
     → (cur : List ℕ) (m : Kept) → length cur ≡ 1290 → Roomy (names_of input) m
     → (o : Outcome) → o ≡ block_of (source rules b d cur) m n → InputBack input o
@@ -84,10 +81,10 @@ CodeReadsBack =
 -- and reads of one name a call do, each over what the one before left: read i, from 0 on, answers i and keeps name i, and one more read is done
 abbrev pub CodeReadsOneByOne : Type 0
 CodeReadsOneByOne =
-    (rules : Rules) (input dir bytes d w : List ℕ) (n total : ℕ) → writing (Written n total) d w ≡ write_of rules input dir bytes
+    (rules : Rules) (input dir bytes d w : List ℕ) (n total : ℕ) → writing (Ok (record { names = n; bytes = total })) d w ≡ write_of rules input dir bytes
     → (b : List ℕ) → Begins total w b
     → (text table : List ℕ) (rows : Table) → Roomy (names_of input) (keeping (state n 0 0 0) text table rows)
-    → (o : ℕ → Outcome) → o 0 ≡ outcome answer.Done (starts d) (keeping (state n 0 0 0) text table rows)
+    → (o : ℕ → Outcome) → o 0 ≡ outcome (Ok None) (starts d) (keeping (state n 0 0 0) text table rows)
     → ((i : ℕ) → o (i + 1) ≡ read_of (source rules b d (o i).cur) (o i).kept)
-    → ((i : ℕ) → i < length (names_of input) → ((o (i + 1)).answer ≡ answer.Kept i) × NameIs (o (i + 1)).kept i (get_or (names_of input) i []))
-    × ((o (length (names_of input) + 1)).answer ≡ answer.Done)
+    → ((i : ℕ) → i < length (names_of input) → ((o (i + 1)).answer ≡ Ok (Some i)) × NameIs (o (i + 1)).kept i (get_or (names_of input) i []))
+    × ((o (length (names_of input) + 1)).answer ≡ Ok None)

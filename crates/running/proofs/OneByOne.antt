@@ -1,5 +1,9 @@
 -- A run of MATCHes, one by one: what they make of a name's judgement, of the name, and of the cursors.
 use Prim.Native.Nat.{ℕ, zero, suc, ◌+◌, ◌-◌, ◌*◌, ◌≤◌, ◌<◌}
+use Rattle.spans.specs.Spans.{Next}
+use Rattle.names.specs.Names.{Judged, Draft, draft, named, refused, type_in, type_at, grown, printable, onward, name_from}
+use Rattle.std.specs.Prelude.{Some, Ok, Err}
+use Rattle.refusals.specs.declared.Reason.TheVariants as reason
 use mathlib.Core.Path.{◌≡◌, refl, sym, ap, ◌∙◌}
 use mathlib.Core.Bool.{true}
 use mathlib.Core.List.{List, [], ◌∷◌, ◌++◌, append_assoc, append-nil}
@@ -12,7 +16,6 @@ use Rattle.base.proofs.Memory.{length_part}
 use Rattle.base.proofs.Numbers.{by_order}
 use Rattle.classes.specs.Classes.{all_allowed}
 use Rattle.spans.specs.declared.Cursor.{Cursor}
-use Rattle.spans.specs.declared.NextByte.{NextByte}
 use Rattle.block.specs.Block.{span_of, cursor_of}
 use Rattle.block.specs.Open.{Open}
 use Rattle.numbering.specs.declared.TokenType.TheVariants as type
@@ -21,16 +24,12 @@ use Rattle.tokens.specs.Tokens.{bytes_of, row_of}
 use Rattle.numbering.specs.Types.{Rules}
 use Rattle.tables.specs.declared.Row.{Row}
 use Rattle.tables.specs.Tables.{Table, row_at}
-use Rattle.values.specs.declared.Step.TheVariants as step
 use Rattle.sources.specs.Source.{Source, source, Earlier, byte_in}
 use Rattle.repeats.specs.Repeats.{token_of}
 use Rattle.steps.specs.Steps.{step_at}
 use Rattle.repeats.specs.Sound.{Rows}
 use Rattle.steps.proofs.Forward.{step_match}
 use Rattle.steps.proofs.Frame.{byte_in_same}
-use Rattle.names.specs.declared.Judged.{Judged}
-use Rattle.names.specs.declared.Judged.TheVariants as judged
-use Rattle.names.specs.Names.{Draft, draft, named, refused, type_in, type_at, grown, printable, onward, name_from}
 use Rattle.moving.specs.Moves.{past, value_past}
 use Rattle.repeating.specs.Repeats.{Spelt, RowsSpelt}
 use Rattle.runs.specs.Runs.{is_match}
@@ -51,11 +50,11 @@ module _ (s : Source) (e : Earlier) (used : ℕ) (k : Rows used e) (spelt : Rows
   abbrev next : Cursor
   next = (matched s.rules.numbers (byte_in s p 0) m).next
 
-  steps : step_at s e p ≡ step.Got token next
+  steps : step_at s e p ≡ Ok (Some (token, next))
   steps =
       let h = k.most in
       step_match s e p (matched s.rules.numbers (byte_in s p 0) m).is (omega arith) there (matched s.rules.numbers (byte_in s p 0) m).typed
-      ∙ ap (λ (j : ℕ). step.Got (token_of e.text (row_at e.rows j)) next) (sym is)
+      ∙ ap (λ (j : ℕ). Ok (Some (token_of e.text (row_at e.rows j), next))) (sym is)
 
   typed : type_at s p ≡ type.Match
   typed = only_match (type_at s p) m
@@ -106,7 +105,7 @@ module _ (s : Source) (e : Earlier) (used : ℕ) (k : Rows used e) (spelt : Rows
   pub judge_long : (n p i f g len c : ℕ) (all : Judged) → i ≡ e.first + (p - 1) → 1 ≤ p → p + n ≤ e.count + 1
       → ((j : ℕ) → p ≤ j → j < p + n → is_match (type_at s j) ≡ true)
       → f ≡ n + g → len ≤ 254 → 254 < len + text_size e.rows i n
-      → judge_from s e f p len c ≡ all → judged.Refused 8 ≡ all
+      → judge_from s e f p len c ≡ all → Err reason.BadName ≡ all
   unfolding text_size
   judge_long zero p i f g len c all is low few m ef short long inv = absurd (omega arith)
   judge_long (suc n) p i f g len c all is low few m ef short long inv =
@@ -182,15 +181,15 @@ module _ (s : Source) (e : Earlier) (used : ℕ) (k : Rows used e) (spelt : Rows
     unfolding ran_on grown types_past value_past
     ran_more = draft_same text_more rows_more (omega arith) (rw (typed s e used k spelt p i low there is m))
 
-  name_one : (p f g : ℕ) (d D : Draft) {t : Token} {c : Cursor} → f ≡ suc g → step_at s e p ≡ step.Got t c
+  name_one : (p f g : ℕ) (d D : Draft) {t : Token} {c : Cursor} → f ≡ suc g → step_at s e p ≡ Ok (Some (t, c))
       → name_from s e used f p d ≡ named D → name_from s e used g (p + 1) (grown s e used p t c.0 d) ≡ named D
   unfolding name_from onward
   name_one p f g d D {t} {c} ef st inv =
       let y = name_from s e used g (p + 1) (grown s e used p t c.0 d) in
       let o = rw st at (rw ef at inv) in
       by_test (printable (bytes_of s.bytes e.text t) (length d.text))
-      (λ z. sym (pick_true y (refused 8) z) ∙ o)
-      (λ z. absurd (never_named (sym (pick_false y (refused 8) z) ∙ o)))
+      (λ z. sym (pick_true y (refused reason.BadName) z) ∙ o)
+      (λ z. absurd (never_named (sym (pick_false y (refused reason.BadName) z) ∙ o)))
 
   pub name_run : (n p i f g q : ℕ) (d D : Draft) → i ≡ e.first + (p - 1) → 1 ≤ p → p + n ≤ e.count + 1
       → ((j : ℕ) → p ≤ j → j < p + n → is_match (type_at s j) ≡ true)
@@ -232,4 +231,4 @@ types_open rules zero bytes dir cur p h o m = o
 types_open rules (suc n) bytes dir cur p h o m =
     types_open rules n bytes dir (past cur (span_of p 0) 1) (p + 1) (omega arith)
     (open_typed rules bytes dir cur o p (omega arith) (matched rules.numbers (byte_in (source rules bytes dir cur) p 0) (m p (omega arith) (omega arith))).is)
-    (λ j a b. ap (λ (x : NextByte). is_match (type_in rules.numbers x)) (type_same rules bytes dir cur p j a) ∙ m j (omega arith) (omega arith))
+    (λ j a b. ap (λ (x : Next). is_match (type_in rules.numbers x)) (type_same rules bytes dir cur p j a) ∙ m j (omega arith) (omega arith))

@@ -1,5 +1,10 @@
 -- A run of MATCHes repeated in one go is what its tokens, one by one, make of a name.
 use Prim.Native.Nat.{ℕ, suc, ◌+◌, ◌-◌, ◌*◌, ◌^◌, ◌≤◌, ◌<◌}
+use Rattle.names.specs.Names.{Judged, Draft, Named, named, type_at, name_from}
+use Rattle.running.specs.Running.{Ran, Reaches, on_at, run_of, run_put}
+use Rattle.std.specs.Prelude.{Ok, Err}
+use Rattle.refusals.specs.declared.Reason.{Reason}
+use Rattle.refusals.specs.declared.Reason.TheVariants as reason
 use mathlib.Core.Path.{◌≡◌, refl, sym, ap, ◌∙◌, subst}
 use mathlib.Core.Bool.{true, false}
 use mathlib.Core.List.{List}
@@ -22,17 +27,11 @@ use Rattle.kept.specs.Inside.{RowInside}
 use Rattle.sources.specs.Source.{Source, source, Earlier, earlier}
 use Rattle.repeats.specs.Sound.{Rows}
 use Rattle.steps.proofs.Laws.{Known}
-use Rattle.names.specs.declared.Judged.{Judged}
-use Rattle.names.specs.declared.Judged.TheVariants as judged
-use Rattle.running.specs.declared.Ran.{Ran}
-use Rattle.running.specs.declared.Ran.TheVariants.{On, Long}
-use Rattle.names.specs.Names.{Draft, Named, named, type_at, name_from}
 use Rattle.names.specs.Judge.{summary, draft_of}
 use Rattle.names.specs.Keeps.{Memory, memory, Roomy}
 use Rattle.repeating.specs.Repeats.{RowsSpelt}
 use Rattle.runs.specs.Runs.{is_match, run_end, text_start, text_length}
 use Rattle.repeating.specs.Repeating.{moved_rows, types_past}
-use Rattle.running.specs.Running.{Reaches, on_at, run_of, run_put}
 use Rattle.names.proofs.Growing.{grows, name_same}
 use Rattle.names.proofs.Judgement.{judge_from, judge_from_law}
 use Rattle.names.proofs.Behind.{Stays, stays}
@@ -44,14 +43,13 @@ use Rattle.running.proofs.OneByOne.{judge_run, judge_long, ran_on, name_run, len
 use Rattle.repeating.proofs.Spelling.{rows_spelt_same}
 use Rattle.tables.proofs.Rows.{SameRows, RowsBelow, below_put, put_next}
 
-never_on : {q l : ℕ} → Long ≡ on_at q l → ⊥
-never_on h = let z : ◌≡◌ {A = ℕ} 0 1 = cc in omega arith
+never_on : {n : Reason} {q l : ℕ} → Err n ≡ on_at q l → ⊥
+never_on h = cc
 
 same_on : {p len q l : ℕ} → on_at p len ≡ on_at q l → (q ≡ p) × (l ≡ len)
 same_on {p} {len} {q} {l} h =
-    let a : ◌≡◌ {A = Position} (record { 0 = q }) (record { 0 = p }) = cc in
-    let b : l ≡ len = cc in
-    (ap (λ (x : Position). x.0) a, b)
+    let w : ◌≡◌ {A = Position × ℕ} (record { 0 = q }, l) (record { 0 = p }, len) = cc in
+    (ap (λ (x : Position × ℕ). x.0.0) w, ap (λ (x : Position × ℕ). x.1) w)
 
 -- a run that came to something
 record Some (s : Source) (e : Earlier) (end p len q l : ℕ) : Type 0 where
@@ -112,8 +110,8 @@ module _ (s : Source) (e : Earlier) (used end p len : ℕ) (all : Judged) (k : R
   pub run_judges : (q l : ℕ) → run_of s e end p len ≡ on_at q l → (p ≤ q) × ((q ≤ 128) × ((l ≤ 254) × (judge_from s e (129 - q) q l (q - 1) ≡ all)))
   run_judges q l h = judges q l (ways s e end p len q l h)
 
-  pub run_spoils : run_of s e end p len ≡ Long → judged.Refused 8 ≡ all
-  run_spoils h =
+  pub run_spoils : {n : Reason} → run_of s e end p len ≡ Err n → Err n ≡ all
+  run_spoils {n} h =
       let t = run_end s p (end - p) in
       let w = text_length e.rows (e.first + (p - 1)) (e.first + (t - 1)) in
       by_order p t
@@ -121,17 +119,19 @@ module _ (s : Source) (e : Earlier) (used end p len : ℕ) (all : Judged) (k : R
       by_order 254 (len + w)
       (λ z.
       let f = run_few s e used end p t k r low refl some in
-      judge_long s e used k (run_spelt s e used end p t k r low refl some) (suc (t - p - 1)) p (e.first + (p - 1)) (129 - p) (129 - t) len (p - 1) all refl low
+      let long = ran_long s e end p t len refl w refl some z ∙ h in
+      let is : n ≡ reason.BadName = cc in
+      rw is (judge_long s e used k (run_spelt s e used end p t k r low refl some) (suc (t - p - 1)) p (e.first + (p - 1)) (129 - p) (129 - t) len (p - 1) all refl low
       (omega (arith, f.0)) (matches s e used end p t k r low refl some) (omega (arith, f.1)) short
-      (omega (arith, z, sized s e used end p t k r low refl some)) inv)
+      (omega (arith, z, sized s e used end p t k r low refl some)) inv))
       (λ z. absurd (never_on (sym (ran_on_law s e end p t len refl w refl some z ∙ h)))))
       (λ none. absurd (never_on (sym (ran_none s e end p t len refl none ∙ h))))
 
 -- where a name is only judged, a run leaves the memory
 pub run_leaves : (e : Earlier) (used row p len : ℕ) (r : Ran) (m : Memory) → run_put false e used row p len r m ≡ m
 unfolding run_put
-run_leaves e used row p len (On q l) m = pick_false _ m (both_left (ltb p q.0) refl)
-run_leaves e used row p len Long m = refl
+run_leaves e used row p len (Ok (q, l)) m = pick_false _ m (both_left (ltb p q.0) refl)
+run_leaves e used row p len (Err n) m = refl
 
 -- what the earlier name's rows tell stays so while a name is kept behind them
 pub going_reaches : (rules : Rules) (bytes dir text₀ : List ℕ) (rows₀ : Table) (first count used row : ℕ) (n : Named) (room : Roomy n (first + count) used row text₀ rows₀)
@@ -160,13 +160,12 @@ module _ (rules : Rules) (bytes dir text₀ : List ℕ) (rows₀ : Table) (first
       let b : p - 1 ≡ g.d.count = omega (arith, g.counted) in
       rw (a, b) (sym (judge_from_law (source rules bytes dir cur) (earlier text rows first count) used (129 - p) p g.d) ∙ ap summary g.goes)
 
-  pub never_long : run_of (source rules bytes dir cur) (earlier text rows first count) end p len ≡ Long → ⊥
+  pub never_long : {n : Reason} → run_of (source rules bytes dir cur) (earlier text rows first count) end p len ≡ Err n → ⊥
   unfolding summary
   never_long h =
       let w : len ≤ 254 = omega (arith, g.place, g.short) in
       let x = run_spoils (source rules bytes dir cur) (earlier text rows first count) used end p len (summary (named (draft_of n))) g.known r g.low g.high w judges_whole h in
-      let z : ◌≡◌ {A = ℕ} 0 1 = cc in
-      omega arith
+      cc
 
   -- a run that came to something
   module _ (q l : ℕ) (w : Some (source rules bytes dir cur) (earlier text rows first count) end p len q l) where

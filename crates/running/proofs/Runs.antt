@@ -1,5 +1,7 @@
 -- What a run of MATCHes asks for, comes to and puts down.
 use Prim.Native.Nat.{ℕ, ◌+◌, ◌-◌, ◌*◌, ◌^◌, ◌≤◌, ◌<◌}
+use Rattle.std.specs.Prelude.{Err}
+use Rattle.refusals.specs.declared.Reason.TheVariants as reason
 use mathlib.Core.Path.{◌≡◌, refl}
 use mathlib.Core.Bool.{Bool, true, false}
 use mathlib.Core.List.{List}
@@ -23,7 +25,6 @@ use Rattle.runs.proofs.Matches.{matched, run_high, run_matches}
 use Rattle.repeating.specs.Repeats.{RowsSpelt}
 use Rattle.repeating.specs.Repeating.{moved_rows, types_past}
 use Rattle.repeating.proofs.Repeating.{size_ends}
-use Rattle.running.specs.declared.Ran.TheVariants.{Long}
 use Rattle.running.specs.Running.{Reaches, on_at, run_to, run_of, run_put}
 
 -- of a run against rows that are known to be spelt
@@ -69,7 +70,7 @@ module _ (s : Source) (e : Earlier) (end p q len : ℕ) (is : q ≡ run_end s p 
   ran_none h = rw (← is) (took _ _ (le-leb q p h) refl)
 
   module _ (w : ℕ) (wide : w ≡ text_length e.rows (e.first + (p - 1)) (e.first + (q - 1))) (some : p < q) where
-    pub ran_long : 254 < len + w → Long ≡ run_of s e end p len
+    pub ran_long : 254 < len + w → Err reason.BadName ≡ run_of s e end p len
     unfolding run_of run_to
     ran_long h = rw (← is, ← wide) (left _ _ (lt-leb q p some) (left _ _ (lt-leb (len + w) 254 h) refl))
 
@@ -85,7 +86,7 @@ module _ (e : Earlier) (used row p len : ℕ) (m : Memory) where
   unfolding run_put
   puts_none k q l h = left _ _ (both_never k p q h) refl
 
-  pub puts_long : (k : Bool) → m ≡ run_put k e used row p len Long m
+  pub puts_long : (k : Bool) → m ≡ run_put k e used row p len (Err reason.BadName) m
   unfolding run_put
   puts_long k = refl
 

@@ -10,16 +10,11 @@ ghost use Rattle.running.specs.Running.{Reaches, run_lent, RunRoom, run_put};
 ghost use Rattle.tables.specs.Tables.{in_rows, rows_lent};
 
 use block::{Block, Setting};
+use refusals::Reason;
 use spans::Position;
 
-// Behind a run of MATCHes: the next position and the name's length so far, or that the name is too long.
-#[derive(Clone, Copy)]
-pub enum Ran {
-    On { p: Position, len: u32 },
-    Long,
-}
-
-// The run from position p on, of a name of `len` bytes so far; kept where the name is being kept.
+// The run from position p on, of a name of `len` bytes so far; kept where the name is being kept. It gives the next position
+// and the length behind the run, and refuses a name that gets too long.
 pub fn run(
     set: Setting,
     keeping: bool,
@@ -35,7 +30,7 @@ pub fn run(
     row: u32,
     p: Position,
     len: u32,
-) -> Ran
+) -> Result<(Position, u32), Reason>
     requires fact { Open bytes.now dir.now cursors.old }
     requires rows { Rows used (earlier text.old (in_rows rows.old) first count) }
     requires reaches { Reaches end.0 (earlier text.old (in_rows rows.old) first count) }
@@ -47,7 +42,7 @@ pub fn run(
 {
     let q = runs::run_end(set, bytes, dir, cursors, p, end);
     if q.0 <= p.0 {
-        return Ran::On { p: p, len: len };
+        return Ok((p, len));
     }
     let w = runs::run_length(
         rows,
@@ -55,11 +50,11 @@ pub fn run(
         (first + (q.0 - 1)) as usize,
     );
     if Block::BYTES - len < w {
-        return Ran::Long;
+        return Err(Reason::BadName);
     }
     if keeping {
         repeating::repeat(cursors, text, rows, first, p, q, w, used + len, row);
-        return Ran::On { p: q, len: len + w };
+        return Ok((q, len + w));
     }
-    Ran::On { p: q, len: len + w }
+    Ok((q, len + w))
 }

@@ -1,13 +1,13 @@
 -- How far a run of MATCHes goes, and how many bytes its rows have.
 use Prim.Native.Nat.{ℕ, zero, suc, ◌+◌, ◌-◌, ◌≤◌, ◌<◌}
+use Rattle.spans.specs.Spans.{Next}
+use Rattle.std.specs.Prelude.{Some, None}
 use mathlib.Core.Path.{◌≡◌, refl, sym}
 use mathlib.Core.Bool.{true, false}
 use native.Mathlib.Omega.{arith}
 use Rattle.base.proofs.Choice.{pick_true, pick_false, by_test, never}
 use Rattle.base.proofs.Numbers.{here_or_later}
 use Rattle.spans.specs.declared.Cursor.{Cursor}
-use Rattle.spans.specs.declared.NextByte.{NextByte}
-use Rattle.spans.specs.declared.NextByte.TheVariants as byte
 use Rattle.numbering.specs.declared.TokenType.{TokenType}
 use Rattle.numbering.specs.declared.TokenType.TheVariants as type
 use Rattle.numbering.specs.Types.{Numbers, type_of}
@@ -28,16 +28,16 @@ only_match type.End q = absurd (never q)
 only_match type.Other q = absurd (never q)
 
 -- where the type is MATCH, there is a type byte
-pub record Matched (n : Numbers) (found : NextByte) : Type 0 where
+pub record Matched (n : Numbers) (found : Next) : Type 0 where
   pub code : ℕ
   pub next : Cursor
-  pub is : found ≡ byte.Value code next
+  pub is : found ≡ Some (code, next)
   pub typed : type_of n code ≡ type.Match
 
-pub matched : (n : Numbers) (found : NextByte) → is_match (type_in n found) ≡ true → Matched n found
+pub matched : (n : Numbers) (found : Next) → is_match (type_in n found) ≡ true → Matched n found
 unfolding type_in
-matched n (byte.Value b c) q = record { code = b; next = c; is = refl; typed = only_match (type_of n b) q }
-matched n byte.Short q = absurd (never q)
+matched n (Some (b, c)) q = record { code = b; next = c; is = refl; typed = only_match (type_of n b) q }
+matched n None q = absurd (never q)
 
 -- a turn of the loop over the types
 module _ (s : Source) (p f : ℕ) where

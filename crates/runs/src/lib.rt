@@ -8,7 +8,7 @@ ghost use Rattle.tables.specs.Tables.{row_at, in_rows, row_room, rows_lent};
 ghost use Rattle.sources.specs.Source.{block_lent};
 ghost use Rattle.runs.specs.Runs.{is_match, run_end, text_length};
 
-use block::{Setting, stream};
+use block::{Setting, Stream};
 use names::keeping;
 use numbering::TokenType;
 use spans::Position;
@@ -27,17 +27,7 @@ pub fn last(known: bool, count: u32) -> Position
 fn is_match(t: TokenType) -> bool
     ensures { result ≡ is_match t }
 {
-    match t {
-        TokenType::Match => true,
-        TokenType::String => false,
-        TokenType::Char => false,
-        TokenType::Digits => false,
-        TokenType::Digits0 => false,
-        TokenType::Delta => false,
-        TokenType::Delta0 => false,
-        TokenType::End => false,
-        TokenType::Other => false,
-    }
+    matches!(t, TokenType::Match)
 }
 
 // The first position from p on that isn't a MATCH, or `end`.
@@ -54,9 +44,10 @@ pub fn run_end(
     ensures { result.0 ≡ run_end (block_lent set bytes.now dir.now cursors.now) p.0 (end.0 - p.0) }
 {
     let stop = end.0;
+    // Not a `for` over p..end: where p is past `end`, the answer is p.
     let mut q = p.0;
     while q < stop {
-        let found = sources::byte_in(bytes, dir, cursors, Position(q), stream::TYPE);
+        let found = sources::byte_in(bytes, dir, cursors, Position(q), Stream::Type);
         if !is_match(keeping::type_in(set, found)) {
             return Position(q);
         }

@@ -1,5 +1,6 @@
 -- Laws of what stands at a cursor: what an answer tells of the bytes, and which bytes give an answer.
 use Prim.Native.Nat.{ℕ, zero, suc, ◌+◌, ◌-◌, ◌*◌, ◌/◌, ◌%◌, ◌^◌, ◌≤◌, ◌<◌}
+use Rattle.std.specs.Prelude.{Some, None}
 use mathlib.Core.Path.{◌≡◌, refl, sym, ap, ◌∙◌}
 use mathlib.Core.List.{List, [], ◌∷◌, ◌++◌}
 use mathlib.Core.Logic.{⊎_elim}
@@ -14,10 +15,8 @@ use Rattle.base.proofs.Choice.{took, left, pick_true, pick_false, by_test}
 use Rattle.base.proofs.Memory.{part_at}
 use Rattle.base.proofs.Numbers.{lt_or_ge}
 use Rattle.spans.specs.Spans.{cursor, byte_at, four, four_at, four_bytes, zero_from, text_end, text_at}
+use Rattle.spans.specs.declared.Bytes.{Bytes}
 use Rattle.spans.specs.declared.Cursor.{Cursor}
-use Rattle.spans.specs.declared.NextByte.TheVariants as byte
-use Rattle.spans.specs.declared.NextFour.TheVariants as number
-use Rattle.spans.specs.declared.NextText.TheVariants.{Bytes, Unended}
 
 -- what a next byte tells
 pub record ByteFound (bytes : List ℕ) (at end b : ℕ) (next : Cursor) : Type 0 where
@@ -39,34 +38,36 @@ pub record TextFound (bytes : List ℕ) (at end zero : ℕ) : Type 0 where
   pub inside : (k : ℕ) → at ≤ k → k < zero → get_or bytes k 0 ≡ 0 → ⊥
 
 module _ (bytes : List ℕ) (at end : ℕ) where
-  pub byte_short : end < at + 1 → byte.Short ≡ byte_at bytes at end
+  pub byte_short : end < at + 1 → None ≡ byte_at bytes at end
   unfolding byte_at
   byte_short h = left _ _ (lt-leb _ _ h) refl
 
-  pub byte_value : {b : ℕ} → at + 1 ≤ end → b ≡ get_or bytes at 0 → byte.Value b (cursor (at + 1)) ≡ byte_at bytes at end
+  pub byte_value : {b : ℕ} → at + 1 ≤ end → b ≡ get_or bytes at 0 → Some (b, cursor (at + 1)) ≡ byte_at bytes at end
   unfolding byte_at
-  byte_value h e = took _ _ (le-leb _ _ h) (ap (λ (x : ℕ). byte.Value x (cursor (at + 1))) e)
+  byte_value h e = took _ _ (le-leb _ _ h) (ap (λ (x : ℕ). Some (x, cursor (at + 1))) e)
 
-  pub byte_found : {b : ℕ} {next : Cursor} → byte_at bytes at end ≡ byte.Value b next → ByteFound bytes at end b next
+  pub byte_found : {b : ℕ} {next : Cursor} → byte_at bytes at end ≡ Some (b, next) → ByteFound bytes at end b next
   byte_found {b} {next} e =
       ⊎_elim
       (λ (h : end < at + 1). let s = byte_short h in let z : ◌≡◌ {A = ℕ} 0 1 = cc in absurd (omega arith))
-      (λ (h : at + 1 ≤ end). let s = byte_value {b = get_or bytes at 0} h refl in record { room = h; value = cc; past = cc })
+      (λ (h : at + 1 ≤ end). let s = byte_value {b = get_or bytes at 0} h refl in let n : ◌≡◌ {A = ℕ × Cursor} (b, next) (get_or bytes at 0, cursor (at + 1)) = cc in
+      record { room = h; value = ap (λ (x : ℕ × Cursor). x.0) n; past = ap (λ (x : ℕ × Cursor). x.1) n })
       (lt_or_ge end (at + 1))
 
-  pub four_short : end < at + 4 → number.Short ≡ four_at bytes at end
+  pub four_short : end < at + 4 → None ≡ four_at bytes at end
   unfolding four_at
   four_short h = left _ _ (lt-leb _ _ h) refl
 
-  pub four_value : {v : ℕ} → at + 4 ≤ end → v ≡ four bytes at → number.Value v (cursor (at + 4)) ≡ four_at bytes at end
+  pub four_value : {v : ℕ} → at + 4 ≤ end → v ≡ four bytes at → Some (v, cursor (at + 4)) ≡ four_at bytes at end
   unfolding four_at
-  four_value h e = took _ _ (le-leb _ _ h) (ap (λ (x : ℕ). number.Value x (cursor (at + 4))) e)
+  four_value h e = took _ _ (le-leb _ _ h) (ap (λ (x : ℕ). Some (x, cursor (at + 4))) e)
 
-  pub four_found : {v : ℕ} {next : Cursor} → four_at bytes at end ≡ number.Value v next → FourFound bytes at end v next
+  pub four_found : {v : ℕ} {next : Cursor} → four_at bytes at end ≡ Some (v, next) → FourFound bytes at end v next
   four_found {v} {next} e =
       ⊎_elim
       (λ (h : end < at + 4). let s = four_short h in let z : ◌≡◌ {A = ℕ} 0 1 = cc in absurd (omega arith))
-      (λ (h : at + 4 ≤ end). let s = four_value {v = four bytes at} h refl in record { room = h; value = cc; past = cc })
+      (λ (h : at + 4 ≤ end). let s = four_value {v = four bytes at} h refl in let n : ◌≡◌ {A = ℕ × Cursor} (v, next) (four bytes at, cursor (at + 4)) = cc in
+      record { room = h; value = ap (λ (x : ℕ × Cursor). x.0) n; past = ap (λ (x : ℕ × Cursor). x.1) n })
       (lt_or_ge end (at + 4))
 
   pub end_out : end ≤ at → text_end bytes at end ≡ at
@@ -81,11 +82,11 @@ module _ (bytes : List ℕ) (at end : ℕ) where
   unfolding text_end zero_from
   end_next h z = let e : end - at ≡ suc (end - (at + 1)) = omega arith in rw e (sym (pick_false _ _ (ne_eqb _ _ z)))
 
-  pub text_found : {j : ℕ} → text_end bytes at end ≡ j → j < end → Bytes (cursor at) (cursor j) (cursor (j + 1)) ≡ text_at bytes at end
+  pub text_found : {j : ℕ} → text_end bytes at end ≡ j → j < end → Some (record { start = cursor at; end = cursor j; next = cursor (j + 1) }) ≡ text_at bytes at end
   unfolding text_at
   text_found {j} e h = rw e (took _ _ (lt-ltb _ _ h) refl)
 
-  pub text_none : {j : ℕ} → text_end bytes at end ≡ j → end ≤ j → Unended ≡ text_at bytes at end
+  pub text_none : {j : ℕ} → text_end bytes at end ≡ j → end ≤ j → None ≡ text_at bytes at end
   unfolding text_at
   text_none {j} e h = rw e (left _ _ (le-ltb _ _ h) refl)
 
@@ -129,39 +130,34 @@ module _ (bytes : List ℕ) (at end : ℕ) where
       (λ (o : end ≤ at). let z : text_end bytes at end ≡ at = end_out bytes at end o in absurd (omega arith))
       (lt_or_ge at end)
 
+  -- the text that ends at a place
+  abbrev text_to : ℕ → Bytes
+  text_to j = record { start = cursor at; end = cursor j; next = cursor (j + 1) }
+
   pub found_end : {j : ℕ} → TextFound bytes at end j → text_end bytes at end ≡ j
   unfolding text_end
   found_end {j} f = found_zero bytes (end - at) at end j (omega arith) f
 
   -- a text is as its laws say, and what is as they say is the text
-  pub found_text : {j : ℕ} → TextFound bytes at end j → text_at bytes at end ≡ Bytes (cursor at) (cursor j) (cursor (j + 1))
+  pub found_text : {j : ℕ} → TextFound bytes at end j → text_at bytes at end ≡ Some (record { start = cursor at; end = cursor j; next = cursor (j + 1) })
   found_text f = sym (text_found bytes at end (found_end f) f.high)
 
-  pub text_start_law : {a e n : Cursor} → text_at bytes at end ≡ Bytes a e n → a ≡ cursor at
-  text_start_law {a} {e} {n} q =
+  -- where there is a text it ends at the first zero byte, and what is given of it follows from that
+  text_ends : {t : Bytes} → text_at bytes at end ≡ Some t → (text_end bytes at end < end) × (t ≡ text_to (text_end bytes at end))
+  text_ends {t} q =
       ⊎_elim
-      (λ (o : text_end bytes at end < end). let r = text_found bytes at end refl o in cc)
-      (λ (o : end ≤ text_end bytes at end). let r = text_none bytes at end refl o in cc)
-      (lt_or_ge (text_end bytes at end) end)
-
-  pub text_next : {a e n : Cursor} → text_at bytes at end ≡ Bytes a e n → n ≡ cursor (e.0 + 1)
-  text_next {a} {e} {n} q =
-      ⊎_elim
-      (λ (o : text_end bytes at end < end).
-      let r = text_found bytes at end refl o in let x : cursor (text_end bytes at end) ≡ e = cc in let y : cursor (text_end bytes at end + 1) ≡ n = cc in
-      sym y ∙ ap (λ (k : Cursor). cursor (k.0 + 1)) x)
-      (λ (o : end ≤ text_end bytes at end). let r = text_none bytes at end refl o in cc)
-      (lt_or_ge (text_end bytes at end) end)
-
-  pub text_told : {a e n : Cursor} → text_at bytes at end ≡ Bytes a e n → TextFound bytes at end e.0
-  text_told {a} {e} {n} q =
-      ⊎_elim
-      (λ (o : text_end bytes at end < end).
-      let r = text_found bytes at end refl o in let x : cursor (text_end bytes at end) ≡ e = cc in
-      let y : text_end bytes at end ≡ e.0 = ap (λ (k : Cursor). k.0) x in
-      end_found y (omega arith))
+      (λ (o : text_end bytes at end < end). let r = text_found bytes at end refl o in (o, cc))
       (λ (o : end ≤ text_end bytes at end). let r = text_none bytes at end refl o in let z : ◌≡◌ {A = ℕ} 0 1 = cc in absurd (omega arith))
       (lt_or_ge (text_end bytes at end) end)
+
+  pub text_start_law : {t : Bytes} → text_at bytes at end ≡ Some t → t.start ≡ cursor at
+  text_start_law q = ap (λ (t : Bytes). t.start) (text_ends q).1
+
+  pub text_next : {t : Bytes} → text_at bytes at end ≡ Some t → t.next ≡ cursor (t.end.0 + 1)
+  text_next q = let e = (text_ends q).1 in rw e
+
+  pub text_told : {t : Bytes} → text_at bytes at end ≡ Some t → TextFound bytes at end t.end.0
+  text_told q = let e = text_ends q in end_found (sym (ap (λ (t : Bytes). t.end.0) e.1)) (rw e.1 e.0)
 
 -- of bytes below 256, as those of a slice are
 pub four_below : (bytes : List ℕ) (i : ℕ) → ((k : ℕ) → get_or bytes k 0 < 256) → four bytes i < 2 ^ 32
@@ -192,14 +188,14 @@ module _ (bytes : List ℕ) (at end : ℕ) where
       four_whole v h ∙ sym (rw (rw add-zero at a, b, c, d))
 
   -- the way back: a byte, a number and a text that stand in the bytes are read
-  pub byte_back : (b : ℕ) → part bytes at (at + 1) ≡ b ∷ [] → at + 1 ≤ end → byte_at bytes at end ≡ byte.Value b (cursor (at + 1))
+  pub byte_back : (b : ℕ) → part bytes at (at + 1) ≡ b ∷ [] → at + 1 ≤ end → byte_at bytes at end ≡ Some (b, cursor (at + 1))
   byte_back b p h = sym (byte_value bytes at end h (sym (rw add-zero at (part_at bytes (b ∷ []) at (at + 1) 0 p (omega arith)))))
 
-  pub four_back : (v : ℕ) → v < 2 ^ 32 → part bytes at (at + 4) ≡ four_bytes v → at + 4 ≤ end → four_at bytes at end ≡ number.Value v (cursor (at + 4))
+  pub four_back : (v : ℕ) → v < 2 ^ 32 → part bytes at (at + 4) ≡ four_bytes v → at + 4 ≤ end → four_at bytes at end ≡ Some (v, cursor (at + 4))
   four_back v w p h = sym (four_value bytes at end h (four_part v w p))
 
   pub text_back : (s : List ℕ) → part bytes at (at + length s + 1) ≡ s ++ (0 ∷ []) → ((k : ℕ) → k < length s → get_or s k 0 ≡ 0 → ⊥) → at + length s + 1 ≤ end
-      → text_at bytes at end ≡ Bytes (cursor at) (cursor (at + length s)) (cursor (at + length s + 1))
+      → text_at bytes at end ≡ Some (record { start = cursor at; end = cursor (at + length s); next = cursor (at + length s + 1) })
   text_back s p z h =
       found_text bytes at end
       (record {

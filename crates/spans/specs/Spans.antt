@@ -1,29 +1,29 @@
 -- What stands at a cursor of a span that ends at an end: the next byte, the next four as a number, the text up to a zero byte.
 use Rattle.std.specs.Prelude.{ℕ, zero, suc, ◌+◌, ◌-◌, ◌*◌, ◌/◌, ◌%◌, List, [], ◌∷◌, get_or, ltb, leb, eqb}
+use Rattle.spans.specs.declared.Bytes.{Bytes}
+use Rattle.std.specs.Prelude.{Some, None, Option}
 use Rattle.base.specs.Choice.{pick}
 use Rattle.spans.specs.declared.Cursor.{Cursor}
-use Rattle.spans.specs.declared.NextByte.{NextByte}
-use Rattle.spans.specs.declared.NextByte.TheVariants as byte
-use Rattle.spans.specs.declared.NextFour.{NextFour}
-use Rattle.spans.specs.declared.NextFour.TheVariants as number
-use Rattle.spans.specs.declared.NextText.{NextText}
-use Rattle.spans.specs.declared.NextText.TheVariants.{Bytes, Unended}
+
+-- a byte or a number, and the cursor behind it; none where the span ends before
+abbrev pub Next : Type 0
+Next = Option (ℕ × Cursor)
 
 -- the cursor at a byte
 abbrev pub cursor : ℕ → Cursor
 cursor at = record { 0 = at }
 
 -- the next byte
-unfoldable pub byte_at : List ℕ → ℕ → ℕ → NextByte
-byte_at bytes at end = pick (leb (at + 1) end) (byte.Value (get_or bytes at 0) (cursor (at + 1))) byte.Short
+unfoldable pub byte_at : List ℕ → ℕ → ℕ → Next
+byte_at bytes at end = pick (leb (at + 1) end) (Some (get_or bytes at 0, cursor (at + 1))) None
 
 -- the four bytes from i on as a number with the low byte first
 unfoldable pub four : List ℕ → ℕ → ℕ
 four bytes i = get_or bytes i 0 + 256 * get_or bytes (i + 1) 0 + 65536 * get_or bytes (i + 2) 0 + 16777216 * get_or bytes (i + 3) 0
 
 -- the next four as a number
-unfoldable pub four_at : List ℕ → ℕ → ℕ → NextFour
-four_at bytes at end = pick (leb (at + 4) end) (number.Value (four bytes at) (cursor (at + 4))) number.Short
+unfoldable pub four_at : List ℕ → ℕ → ℕ → Next
+four_at bytes at end = pick (leb (at + 4) end) (Some (four bytes at, cursor (at + 4))) None
 
 -- a number as four bytes, the low byte first
 unfoldable pub four_bytes : ℕ → List ℕ
@@ -39,8 +39,8 @@ unfoldable pub text_end : List ℕ → ℕ → ℕ → ℕ
 text_end bytes at end = zero_from bytes at (end - at)
 
 -- the text up to a zero byte, which is dropped
-unfoldable pub text_at : List ℕ → ℕ → ℕ → NextText
+unfoldable pub text_at : List ℕ → ℕ → ℕ → Option Bytes
 text_at bytes at end =
     pick (ltb (text_end bytes at end) end)
-    (Bytes (cursor at) (cursor (text_end bytes at end)) (cursor (text_end bytes at end + 1)))
-    Unended
+    (Some (record { start = cursor at; end = cursor (text_end bytes at end); next = cursor (text_end bytes at end + 1) }))
+    None

@@ -17,26 +17,12 @@ pub struct Position(pub u32);
 #[derive(Clone, Copy)]
 pub struct Cursor(pub u32);
 
+// Where a text lies, and the cursor behind the zero byte that ends it.
 #[derive(Clone, Copy)]
-pub enum NextByte {
-    Value(u8, Cursor),
-    Short,
-}
-
-#[derive(Clone, Copy)]
-pub enum NextFour {
-    Value(u32, Cursor),
-    Short,
-}
-
-#[derive(Clone, Copy)]
-pub enum NextText {
-    Bytes {
-        start: Cursor,
-        end: Cursor,
-        next: Cursor,
-    },
-    Unended,
+pub struct Bytes {
+    pub start: Cursor,
+    pub end: Cursor,
+    pub next: Cursor,
 }
 
 // The number of four bytes, the low byte first.
@@ -47,57 +33,55 @@ pub fn join(b0: u8, b1: u8, b2: u8, b3: u8) -> u32
 }
 
 impl Cursor {
-    pub fn next_byte(self, bytes: &[u8], end: Cursor) -> NextByte
+    pub fn next_byte(self, bytes: &[u8], end: Cursor) -> Option<(u8, Cursor)>
         requires { end.0 ≤ length bytes.now }
         ensures { result ≡ byte_at bytes.now self.0 end.0 }
     {
         let at = self.0;
         let stop = end.0;
         if stop <= at {
-            return NextByte::Short;
+            return None;
         }
-        NextByte::Value(bytes[at as usize], Cursor(at + 1))
+        Some((bytes[at as usize], Cursor(at + 1)))
     }
 
-    pub fn next_four(self, bytes: &[u8], end: Cursor) -> NextFour
+    pub fn next_four(self, bytes: &[u8], end: Cursor) -> Option<(u32, Cursor)>
         requires { end.0 ≤ length bytes.now }
         ensures { result ≡ four_at bytes.now self.0 end.0 }
     {
         let at = self.0;
         let stop = end.0;
         if stop < at {
-            return NextFour::Short;
+            return None;
         }
         if stop - at < 4 {
-            return NextFour::Short;
+            return None;
         }
         let i = at as usize;
         let b0 = bytes[i];
         let b1 = bytes[i + 1];
         let b2 = bytes[i + 2];
         let b3 = bytes[i + 3];
-        NextFour::Value(join(b0, b1, b2, b3), Cursor(at + 4))
+        Some((join(b0, b1, b2, b3), Cursor(at + 4)))
     }
 
     // The zero byte is dropped; one at the end or behind it does not count.
-    pub fn next_text(self, bytes: &[u8], end: Cursor) -> NextText
+    pub fn next_text(self, bytes: &[u8], end: Cursor) -> Option<Bytes>
         requires { end.0 ≤ length bytes.now }
         ensures { result ≡ text_at bytes.now self.0 end.0 }
     {
         let at = self.0;
         let stop = end.0 as usize;
-        let mut i = at as usize;
-        while i < stop {
+        for i in at as usize..stop {
             if bytes[i] == 0 {
                 let zero = i as u32;
-                return NextText::Bytes {
+                return Some(Bytes {
                     start: Cursor(at),
                     end: Cursor(zero),
                     next: Cursor(zero + 1),
-                };
+                });
             }
-            i += 1;
         }
-        NextText::Unended
+        None
     }
 }

@@ -9,7 +9,9 @@ use lib.ListN.{length, get_or}
 use Rattle.base.proofs.Choice.{pick_true, pick_false, by_test, never, fails}
 use Rattle.base.proofs.Numbers.{by_order}
 use Rattle.digits.specs.Digits.{is_digit}
-use Rattle.classes.specs.Classes.{other_class, digit_class, letter_class, is_letter, class_of}
+use Rattle.classes.specs.declared.Class.{Class}
+use Rattle.classes.specs.declared.Class.TheVariants.{Other, Digit, Letter}
+use Rattle.classes.specs.Classes.{is_letter, class_of}
 use Rattle.classes.proofs.Laws.{letter_no_digit, class_digit, class_letter, class_other, digit_class_law, letter_class_law}
 use Rattle.splitting.specs.Split.{run_end, run_limit, run_at}
 use Rattle.splitting.specs.Rule.{Longest, no_digit, Splits, Rule}
@@ -27,7 +29,7 @@ module _ (test : ℕ → Bool) (most : ℕ) (s : List ℕ) (at : ℕ) where
   longest_one {d} {e} f g = by_order d e (λ l. absurd (not_before f g l)) (λ l. by_order e d (λ k. absurd (not_before g f k)) (λ k. omega arith))
 
 -- the bytes of one class, told by a test, that a run may go on for
-module _ (s : List ℕ) (at : ℕ) (h : at < length s) (test : ℕ → Bool) (k most : ℕ)
+module _ (s : List ℕ) (at : ℕ) (h : at < length s) (test : ℕ → Bool) (k : Class) (most : ℕ)
     (tells : (b : ℕ) → class_of b ≡ k → test b ≡ true) (told : (b : ℕ) → test b ≡ true → class_of b ≡ k)
     (high : run_limit s at ≤ at + most) (low : (e : ℕ) → e < length s → e < at + most → e < run_limit s at) where
   longest : test (get_or s at 0) ≡ true → Longest test most s at (run_at s at)
@@ -46,22 +48,22 @@ module _ (s : List ℕ) (at : ℕ) (h : at < length s) (test : ℕ → Bool) (k 
 module _ (s : List ℕ) (at : ℕ) (h : at < length s) where
   digits : is_digit (get_or s at 0) ≡ true → Longest is_digit 9 s at (run_at s at)
   digits d =
-      let c : class_of (get_or s at 0) ≡ digit_class = class_digit _ d in
+      let c : class_of (get_or s at 0) ≡ Digit = class_digit _ d in
       let r = limit_digits s at h c in
-      longest s at h is_digit digit_class 9 digit_class_law class_digit (omega arith)
+      longest s at h is_digit Digit 9 digit_class_law class_digit (omega arith)
       (λ e a b. by_order (at + 9) (length s) (λ l. omega (arith, limit_nine s at h c l)) (λ l. omega (arith, limit_short s at h c l)))
       d
 
   letters : is_letter (get_or s at 0) ≡ true → Longest is_letter (length s) s at (run_at s at)
   letters l =
       let n : run_limit s at ≡ length s = limit_letters s at h (class_letter _ l) in
-      longest s at h is_letter letter_class (length s) letter_class_law class_letter (omega arith) (λ e a b. omega arith) l
+      longest s at h is_letter Letter (length s) letter_class_law class_letter (omega arith) (λ e a b. omega arith) l
 
   alone : is_digit (get_or s at 0) ≡ false → is_letter (get_or s at 0) ≡ false → run_at s at ≡ at + 1
   alone d l =
-      let c : class_of (get_or s at 0) ≡ other_class = class_other _ d l in
-      let f : class_of (get_or s at 0) ≡ digit_class → ⊥ = λ e. omega arith in
-      let g : class_of (get_or s at 0) ≡ letter_class → ⊥ = λ e. omega arith in
+      let c : class_of (get_or s at 0) ≡ Other = class_other _ d l in
+      let f : class_of (get_or s at 0) ≡ Digit → ⊥ = λ e. cc in
+      let g : class_of (get_or s at 0) ≡ Letter → ⊥ = λ e. cc in
       sym (run_alone s at h f g)
 
   -- document 01's longest run of other bytes

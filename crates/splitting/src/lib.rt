@@ -3,11 +3,12 @@
 #![tactic(auto)]
 
 ghost use Rattle.std.specs.Prelude.{◌≡◌, ◌≤◌, ◌<◌, ◌-◌, length, get_or};
-ghost use Rattle.classes.specs.Classes.{digit_class, class_of, class_table};
+ghost use Rattle.classes.specs.declared.Class.TheVariants.{Digit};
+ghost use Rattle.classes.specs.Classes.{class_of, class_table};
 ghost use Rattle.splitting.specs.Split.{run_end, number_run, run_limit, cut_of};
 
 use block::Block;
-use classes::{DIGIT, LETTER};
+use classes::Class;
 use spans::Position;
 
 // The last position of a token; END comes behind it.
@@ -21,19 +22,17 @@ pub struct Cut {
 }
 
 // Where a run of a class ends.
-fn run_end(table: &[u8; 256], name: &[u8], class: u8, at: usize) -> usize
+fn run_end(table: &[u8; 256], name: &[u8], class: Class, at: usize) -> usize
     requires table_value { table.now ≡ class_table }
     requires at_in_bounds { at ≤ length name.now }
     ensures { result ≡ run_end name.now class at (length name.now - at) }
 {
-    let mut i = at;
-    while i < name.len() {
+    for i in at..name.len() {
         if classes::class_in(table, name[i]) != class {
             return i;
         }
-        i += 1;
     }
-    i
+    name.len()
 }
 
 // A run of digits, read while its end is looked for.
@@ -43,21 +42,19 @@ fn number_run(table: &[u8; 256], name: &[u8], at: usize, to: usize) -> Cut
     ensures { result ≡ number_run name.now at (to - at) }
 {
     let mut n: u32 = 0;
-    let mut i = at;
-    while i < to {
+    for i in at..to {
         let b = name[i];
-        if classes::class_in(table, b) != DIGIT {
+        if classes::class_in(table, b) != Class::Digit {
             return Cut { end: i, number: n };
         }
         n = 10 * n + (b as u32 - 48);
-        i += 1;
     }
-    Cut { end: i, number: n }
+    Cut { end: to, number: n }
 }
 
 // A run of digits is cut after 9.
 fn digits_limit(name: &[u8], at: usize) -> usize
-    requires { (at < length name.now) × (class_of (get_or name.now at 0) ≡ digit_class) }
+    requires { (at < length name.now) × (class_of (get_or name.now at 0) ≡ Digit) }
     ensures { result ≡ run_limit name.now at }
 {
     let digits = Block::DIGITS as usize;
@@ -81,18 +78,15 @@ pub fn cut_at(table: &[u8; 256], name: &[u8], p: Position, at: usize) -> Cut
             number: 0,
         };
     }
-    let class = classes::class_in(table, name[at]);
-    if class == DIGIT {
-        return number_run(table, name, at, digits_limit(name, at));
-    }
-    // Where no letter begins, the byte stands alone.
-    let end = run_end(table, name, LETTER, at);
-    if end == at {
-        let next = at + 1;
-        return Cut {
-            end: next,
+    match classes::class_in(table, name[at]) {
+        Class::Digit => number_run(table, name, at, digits_limit(name, at)),
+        Class::Letter => Cut {
+            end: run_end(table, name, Class::Letter, at),
             number: 0,
-        };
+        },
+        Class::Other => Cut {
+            end: at + 1,
+            number: 0,
+        },
     }
-    Cut { end, number: 0 }
 }

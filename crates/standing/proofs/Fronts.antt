@@ -1,5 +1,8 @@
 -- What stands at a cursor is what is at the front of the bytes left: a byte, four bytes, a text.
 use Prim.Native.Nat.{ℕ, zero, suc, ◌+◌, ◌-◌, ◌≤◌, ◌<◌}
+use Rattle.spans.specs.Spans.{Next}
+use Rattle.spans.specs.declared.Bytes.{Bytes}
+use Rattle.std.specs.Prelude.{Some, None, Option}
 use mathlib.Core.Path.{◌≡◌, refl, sym, ap, ◌∙◌}
 use mathlib.Core.List.{List, [], ◌∷◌}
 use native.Mathlib.Omega.{arith}
@@ -11,12 +14,6 @@ use Rattle.base.specs.Memory.{part}
 use Rattle.base.proofs.Choice.{pick_true, pick_false, pick_two, by_test}
 use Rattle.base.proofs.Numbers.{by_order}
 use Rattle.base.proofs.Lists.{part_first, part_none}
-use Rattle.spans.specs.declared.NextByte.{NextByte}
-use Rattle.spans.specs.declared.NextByte.TheVariants as next
-use Rattle.spans.specs.declared.NextFour.{NextFour}
-use Rattle.spans.specs.declared.NextFour.TheVariants as number
-use Rattle.spans.specs.declared.NextText.{NextText}
-use Rattle.spans.specs.declared.NextText.TheVariants.{Bytes, Unended}
 use Rattle.spans.specs.Spans as spans
 use Rattle.spans.specs.Spans.{cursor, byte_at, four_at, text_end, text_at}
 use Rattle.spans.proofs.Laws.{byte_short, byte_value, four_short, four_value, end_out, end_here, end_next, end_found}
@@ -26,25 +23,25 @@ module _ (bytes : List ℕ) (end : ℕ) (within : end ≤ length bytes) where
   step : (at : ℕ) → at < end → part bytes at end ≡ get_or bytes at 0 ∷ part bytes (at + 1) end
   step at h = part_first bytes at end h within
 
-  pub byte_front : (P : NextByte → Front ℕ → Type 0) (at : ℕ)
-      → ((b : ℕ) → at + 1 ≤ end → P (next.Value b (cursor (at + 1))) (front b (part bytes (at + 1) end)))
-      → P next.Short short → P (byte_at bytes at end) (byte (part bytes at end))
+  pub byte_front : (P : Next → Front ℕ → Type 0) (at : ℕ)
+      → ((b : ℕ) → at + 1 ≤ end → P (Some (b, cursor (at + 1))) (front b (part bytes (at + 1) end)))
+      → P None short → P (byte_at bytes at end) (byte (part bytes at end))
   unfolding byte
   byte_front P at f g =
       by_order at end
       (λ h. rw (← byte_value bytes at end {b = get_or bytes at 0} (omega (arith, h)) refl, step at h) (f (get_or bytes at 0) (omega (arith, h))))
       (λ h. rw (← byte_short bytes at end (omega (arith, h)), part_none bytes at end h) g)
 
-  pub four_front : (P : NextFour → Front ℕ → Type 0) (at : ℕ)
-      → ((v : ℕ) → at + 4 ≤ end → P (number.Value v (cursor (at + 4))) (front v (part bytes (at + 4) end)))
-      → P number.Short short → P (four_at bytes at end) (four (part bytes at end))
+  pub four_front : (P : Next → Front ℕ → Type 0) (at : ℕ)
+      → ((v : ℕ) → at + 4 ≤ end → P (Some (v, cursor (at + 4))) (front v (part bytes (at + 4) end)))
+      → P None short → P (four_at bytes at end) (four (part bytes at end))
   unfolding four spans.four
   four_front P at f g =
       let two : at + 1 + 1 ≡ at + 2 = omega arith in
       let three : at + 2 + 1 ≡ at + 3 = omega arith in
       let all : at + 3 + 1 ≡ at + 4 = omega arith in
       let none : (n : ℕ) → end ≤ n → part bytes n end ≡ [] = λ n h. part_none bytes n end h in
-      let few : end < at + 4 → four_at bytes at end ≡ number.Short = λ h. sym (four_short bytes at end h) in
+      let few : end < at + 4 → four_at bytes at end ≡ None = λ h. sym (four_short bytes at end h) in
       by_order at end
       (λ a. by_order (at + 1) end
       (λ b. by_order (at + 2) end
@@ -95,9 +92,9 @@ module _ (bytes : List ℕ) (end : ℕ) (within : end ≤ length bytes) where
       ∙ ap (longer (get_or bytes at 0)) (text_is n (at + 1) (omega (arith, e)) ∙ ap (found (at + 1)) z)
       ∙ further at (text_end bytes at end) h (λ l. (end_found bytes (at + 1) end z l).low)))
 
-  pub text_front : (P : NextText → Front (List ℕ) → Type 0) (at : ℕ) → at ≤ end
-      → ((z : ℕ) → at ≤ z → z < end → P (Bytes (cursor at) (cursor z) (cursor (z + 1))) (front (part bytes at z) (part bytes (z + 1) end)))
-      → P Unended short → P (text_at bytes at end) (text (part bytes at end))
+  pub text_front : (P : Option Bytes → Front (List ℕ) → Type 0) (at : ℕ) → at ≤ end
+      → ((z : ℕ) → at ≤ z → z < end → P (Some (record { start = cursor at; end = cursor z; next = cursor (z + 1) })) (front (part bytes at z) (part bytes (z + 1) end)))
+      → P None short → P (text_at bytes at end) (text (part bytes at end))
   unfolding text_at found
   text_front P at order f g =
       rw (text_is (end - at) at (omega (arith, order)))

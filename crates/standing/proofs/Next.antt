@@ -1,5 +1,11 @@
 -- One read: it keeps the name that the words say is next, or gives their refusal; or, there being a name, 9.
 use Prim.Native.Nat.{ℕ, zero, suc, ◌+◌, ◌-◌, ◌≤◌, ◌<◌}
+use Rattle.spans.specs.Spans.{Next}
+use Rattle.distances.specs.Distances.{Head}
+use Rattle.std.specs.Prelude.{None, Ok, Err}
+use Rattle.refusals.specs.declared.Reason.{Reason}
+use Rattle.refusals.specs.declared.Reason.TheVariants as reason
+use Rattle.distances.specs.declared.Reference.TheVariants as reference
 use mathlib.Core.Path.{◌≡◌, refl, sym, ap, ◌∙◌, subst}
 use mathlib.Core.Logic.{⊎_elim}
 use mathlib.Core.Bool.{Bool}
@@ -15,8 +21,6 @@ use Rattle.base.proofs.Every.{every_same}
 use Rattle.base.proofs.Lists.{part_first, part_none}
 use Rattle.base.proofs.Numbers.{by_order}
 use Rattle.base.proofs.Choice.{pick_two, pick_true, pick_false, pick_holds, both_true}
-use Rattle.spans.specs.declared.NextByte.{NextByte}
-use Rattle.spans.specs.declared.NextFour.{NextFour}
 use Rattle.block.specs.Block.{span_of, end_of, cursor_of, at_end, all_at_end}
 use Rattle.block.specs.Open.{Open}
 use Rattle.block.specs.Streams.{type_stream, dup_stream, diff_stream}
@@ -30,13 +34,10 @@ use Rattle.sources.specs.Source.{Source, source, Earlier, byte_in, four_in}
 use Rattle.moving.specs.Moves.{past}
 use Rattle.moving.proofs.Moves.{length_past}
 use Rattle.names.specs.Names.{Draft, draft, Named}
-use Rattle.entries.specs.declared.Answer.TheVariants as answer
 use Rattle.outcomes.specs.Outcomes.{Outcome, outcome, plain}
 use Rattle.outcomes.specs.Keeping.{room_for, kept, keep_of}
 use Rattle.earlier.specs.Back.{rows_of, none, entry_back}
 use Rattle.earlier.specs.Fits.{AllFit}
-use Rattle.distances.specs.declared.Head.{Head}
-use Rattle.distances.specs.declared.Head.TheVariants as head
 use Rattle.distances.specs.Distances.{dup_fits, diff_fits, dup_head, diff_head}
 use Rattle.heads.specs.Heads.{typed_head, head_of, head_past}
 use Rattle.heads.specs.Headed.{Headed}
@@ -91,7 +92,7 @@ module _ (rules : Rules) (bytes dir cur : List ℕ) (m : Kept) (before : List Na
     unfolding keep_of kept
     keep_said = pick_holds (λ (y : Outcome). Says y (said n left)) (room_for m x) _ _ (λ e. keeps _ n left refl tells) (λ e. full n left)
 
-  refused_said : (r : ℕ) → Says (headed_of s m (head.Refused r)) (refused r)
+  refused_said : (r : Reason) → Says (headed_of s m (Err r)) (refused r)
   unfolding headed_of
   refused_said r = gives r
 
@@ -133,7 +134,7 @@ module _ (rules : Rules) (bytes dir cur : List ℕ) (m : Kept) (before : List Na
 
   -- rule 3
   copy_said : (d : ℕ) → suc d ≤ k
-      → Says (headed_of s m (head.Dup (record { 0 = suc d }))) (said (record { tokens = (get_or before d nobody).tokens; distance = suc d }) (headed_left dup_stream))
+      → Says (headed_of s m (Ok (reference.Dup (record { 0 = suc d })))) (said (record { tokens = (get_or before d nobody).tokens; distance = suc d }) (headed_left dup_stream))
   unfolding headed_of dup_of entry_back
   copy_said d h =
       let st : Stands m (k - suc d) (get_or before d nobody) = earlier_stands d h in
@@ -141,11 +142,11 @@ module _ (rules : Rules) (bytes dir cur : List ℕ) (m : Kept) (before : List Na
       (keep_said _ _ _ (suc d) _ _ (headed_is dup_stream (omega arith) (omega arith))
       (same_stands m _ _ _ (suc d) c (k - suc d) (get_or before d nobody) st (earlier_inside d h) st.text refl refl))
 
-  dup_said : (d : ℕ) → Says (headed_of s m (pick (dup_fits d k) (head.Dup (record { 0 = d })) (head.Refused 4))) (copy before d (headed_left dup_stream))
+  dup_said : (d : ℕ) → Says (headed_of s m (pick (dup_fits d k) (Ok (reference.Dup (record { 0 = d }))) (Err reason.BadDistance))) (copy before d (headed_left dup_stream))
   unfolding copy headed_of
-  dup_said zero = rw t.many (pick_two (λ (h : Head) (w : Said Name). Says (headed_of s m h) w) (dup_fits 0 k) _ _ _ _ (λ e. absurd (let z = leb-true 1 0 (both_true _ _ e).0 in omega (arith, z))) (λ e. gives 4))
+  dup_said zero = rw t.many (pick_two (λ (h : Head) (w : Said Name). Says (headed_of s m h) w) (dup_fits 0 k) _ _ _ _ (λ e. absurd (let z = leb-true 1 0 (both_true _ _ e).0 in omega (arith, z))) (λ e. gives reason.BadDistance))
   dup_said (suc d) =
-      rw t.many (pick_two (λ (h : Head) (w : Said Name). Says (headed_of s m h) w) (dup_fits (suc d) k) _ _ _ _ (λ e. copy_said d (leb-true (suc d) k (both_true _ _ e).1)) (λ e. gives 4))
+      rw t.many (pick_two (λ (h : Head) (w : Said Name). Says (headed_of s m h) w) (dup_fits (suc d) k) _ _ _ _ (λ e. copy_said d (leb-true (suc d) k (both_true _ _ e).1)) (λ e. gives reason.BadDistance))
 
   -- rule 4, with the rows of an earlier name or with none
   module _ (d : ℕ) (e : Earlier) (vs : List Value) (r : RowsTell e 1 vs) where
@@ -165,7 +166,7 @@ module _ (rules : Rules) (bytes dir cur : List ℕ) (m : Kept) (before : List Na
         (head_open rules bytes dir cur diff_stream d k o (omega arith) (omega arith) h) (head_same cur diff_stream (omega arith)) r (headed_is diff_stream (omega arith) (omega arith)))
 
   diffs_said : (d : ℕ) → d ≤ k → Headed s diff_stream d k
-      → Says (headed_of s m (head.Diff (record { 0 = d })))
+      → Says (headed_of s m (Ok (reference.Diff (record { 0 = d }))))
       (then (tokens_from rules 128 1 (back before d).tokens 0 (headed_left diff_stream)) (λ vs rest. said (record { tokens = vs; distance = d }) rest))
   unfolding headed_of entry_back none
   diffs_said zero h f = rw (pick_true _ _ (eq-eqb 0 0 refl)) (diff_made 0 (none m) [] (shown.none 1 (omega arith)) f)
@@ -174,12 +175,12 @@ module _ (rules : Rules) (bytes dir cur : List ℕ) (m : Kept) (before : List Na
       (diff_made (suc d) (rows_of m (entry_at m.names (k - suc d))) (get_or before d nobody).tokens (rows_told m (k - suc d) (get_or before d nobody) (earlier_stands d h)) f)
 
   diff_said : (d : ℕ) → cursor_of cur (span_of 0 type_stream) + 1 ≤ end_of dir (span_of 0 type_stream) → cursor_of cur (span_of 0 diff_stream) + 4 ≤ end_of dir (span_of 0 diff_stream)
-      → Says (headed_of s m (pick (diff_fits d k) (head.Diff (record { 0 = d })) (head.Refused 4))) (made rules before d (headed_left diff_stream))
+      → Says (headed_of s m (pick (diff_fits d k) (Ok (reference.Diff (record { 0 = d }))) (Err reason.BadDistance))) (made rules before d (headed_left diff_stream))
   unfolding made
   diff_said d a b =
       rw t.many (pick_two (λ (h : Head) (w : Said Name). Says (headed_of s m h) w) (diff_fits d k) _ _ _ _
       (λ e. let near : d ≤ k = leb-true d k e in diffs_said d near (record { near = near; typed = a; four = b }))
-      (λ e. refused_said 4))
+      (λ e. refused_said reason.BadDistance))
 
   -- rule 1
   dup_headed : Says (headed_of s m (dup_head k (four_in s 0 dup_stream))) (then (taken typed_left (span_of 0 dup_stream) (four (typed_left (span_of 0 dup_stream)))) (copy before))
@@ -187,8 +188,8 @@ module _ (rules : Rules) (bytes dir cur : List ℕ) (m : Kept) (before : List Na
   dup_headed =
       rw (distance_left dup_stream (omega arith) (omega arith))
       (four_front bytes (end_of dir (span_of 0 dup_stream)) (four_within dup_stream (omega arith) (omega arith))
-      (λ (n : NextFour) (f : Front ℕ). Says (headed_of s m (dup_head k n)) (then (taken typed_left (span_of 0 dup_stream) f) (copy before)))
-      (cursor_of cur (span_of 0 dup_stream)) (λ d a. dup_said d) (refused_said 2))
+      (λ (n : Next) (f : Front ℕ). Says (headed_of s m (dup_head k n)) (then (taken typed_left (span_of 0 dup_stream) f) (copy before)))
+      (cursor_of cur (span_of 0 dup_stream)) (λ d a. dup_said d) (refused_said reason.Short))
 
   diff_headed : cursor_of cur (span_of 0 type_stream) + 1 ≤ end_of dir (span_of 0 type_stream)
       → Says (headed_of s m (diff_head k (four_in s 0 diff_stream))) (then (taken typed_left (span_of 0 diff_stream) (four (typed_left (span_of 0 diff_stream)))) (made rules before))
@@ -196,23 +197,23 @@ module _ (rules : Rules) (bytes dir cur : List ℕ) (m : Kept) (before : List Na
   diff_headed h =
       rw (distance_left diff_stream (omega arith) (omega arith))
       (four_front bytes (end_of dir (span_of 0 diff_stream)) (four_within diff_stream (omega arith) (omega arith))
-      (λ (n : NextFour) (f : Front ℕ). Says (headed_of s m (diff_head k n)) (then (taken typed_left (span_of 0 diff_stream) f) (made rules before)))
-      (cursor_of cur (span_of 0 diff_stream)) (λ d a. diff_said d h a) (refused_said 2))
+      (λ (n : Next) (f : Front ℕ). Says (headed_of s m (diff_head k n)) (then (taken typed_left (span_of 0 diff_stream) f) (made rules before)))
+      (cursor_of cur (span_of 0 diff_stream)) (λ d a. diff_said d h a) (refused_said reason.Short))
 
   head_said : (b : ℕ) → cursor_of cur (span_of 0 type_stream) + 1 ≤ end_of dir (span_of 0 type_stream)
-      → Says (headed_of s m (pick (eqb b rules.numbers.dup) (dup_head k (four_in s 0 dup_stream)) (pick (eqb b rules.numbers.diff) (diff_head k (four_in s 0 diff_stream)) (head.Refused 3)))) (headed rules before b typed_left)
+      → Says (headed_of s m (pick (eqb b rules.numbers.dup) (dup_head k (four_in s 0 dup_stream)) (pick (eqb b rules.numbers.diff) (diff_head k (four_in s 0 diff_stream)) (Err reason.UnknownType)))) (headed rules before b typed_left)
   unfolding headed
   head_said b h =
       pick_two (λ (x : Head) (w : Said Name). Says (headed_of s m x) w) (eqb b rules.numbers.dup) _ _ _ _ (λ e. dup_headed)
-      (λ e. pick_two (λ (x : Head) (w : Said Name). Says (headed_of s m x) w) (eqb b rules.numbers.diff) _ _ _ _ (λ f. diff_headed h) (λ f. refused_said 3))
+      (λ e. pick_two (λ (x : Head) (w : Said Name). Says (headed_of s m x) w) (eqb b rules.numbers.diff) _ _ _ _ (λ f. diff_headed h) (λ f. refused_said reason.UnknownType))
 
   name_next : Says (headed_of s m (head_of s k)) (words.next rules before spans)
   unfolding head_of typed_head byte_in words.next then taken typed_left
   name_next =
       rw (t.left (span_of 0 0) (span_below 0 0 (omega arith) (omega arith)))
       (byte_front bytes (end_of dir (span_of 0 0)) (o.within (span_of 0 0) (span_below 0 0 (omega arith) (omega arith)))
-      (λ (n : NextByte) (f : Front ℕ). Says (headed_of s m (typed_head s k n)) (then (taken spans (span_of 0 0) f) (headed rules before)))
-      (cursor_of cur (span_of 0 0)) (λ b a. head_said b a) (refused_said 2))
+      (λ (n : Next) (f : Front ℕ). Says (headed_of s m (typed_head s k n)) (then (taken spans (span_of 0 0) f) (headed rules before)))
+      (cursor_of cur (span_of 0 0)) (λ b a. head_said b a) (refused_said reason.Short))
 
   -- with all names read, every span at its end or not
   span_empty : (j : ℕ) → j < 1290 → words.is_empty (spans j) ≡ at_end dir cur j
@@ -234,4 +235,4 @@ pub ends_said : EndsSaid
 unfolding next_of
 ends_said rules bytes dir cur m before spans o c fits t e =
     pick_true _ _ (eq-eqb _ _ e)
-    ∙ ap (λ (b : Bool). pick b (outcome answer.Done cur m) (plain (source rules bytes dir cur) m 10)) (sym (all_empty_law rules bytes dir cur m before spans o c fits t))
+    ∙ ap (λ (b : Bool). pick b (outcome (Ok None) cur m) (plain (source rules bytes dir cur) m reason.Unread)) (sym (all_empty_law rules bytes dir cur m before spans o c fits t))

@@ -1,5 +1,8 @@
 -- The tokens of a name: a walk over the positions makes the draft that the words say.
 use Prim.Native.Nat.{ℕ, zero, suc, ◌+◌, ◌≤◌}
+use Rattle.refusals.specs.declared.Reason.{Reason}
+use Rattle.refusals.specs.declared.Reason.TheVariants as reason
+use Rattle.values.specs.Values.{Step}
 use mathlib.Core.Path.{◌≡◌, refl, sym, ap, ◌∙◌}
 use mathlib.Core.List.{List, [], ◌∷◌, ◌++◌, append_assoc, append-nil}
 use native.Mathlib.Omega.{arith}
@@ -17,8 +20,6 @@ use Rattle.tokens.specs.declared.Token.{Token}
 use Rattle.tokens.specs.Tokens.{bytes_of, length_of}
 use Rattle.numbering.specs.Types.{Rules}
 use Rattle.sources.specs.Source.{Source, source, Earlier}
-use Rattle.values.specs.declared.Step.{Step}
-use Rattle.values.specs.declared.Step.TheVariants as step
 use Rattle.steps.specs.Steps.{step_at}
 use Rattle.moving.specs.Moves.{past, value_past}
 use Rattle.names.proofs.Frames.{SameFrom, step_here, type_here, grown_open, grown_same}
@@ -26,7 +27,7 @@ use Rattle.names.specs.Names as names
 use Rattle.names.specs.Names.{Draft, draft, Named, named, type_at, grown, ended, printable, name_from, name_of}
 use Rattle.words.specs.Fronts.{Spans, Said, said, refused, then}
 use Rattle.words.specs.Values.{Value, prints, spelt, row_for}
-use Rattle.words.specs.Words.{Found, value, found, onward, behind, tokens_from}
+use Rattle.words.specs.Words.{Found, found, onward, behind, tokens_from}
 use Rattle.standing.specs.Stands.{Left}
 use Rattle.standing.proofs.Shown.{shown, shown_prints, shown_row, RowsTell, none, more}
 use Rattle.standing.proofs.Steps as steps
@@ -45,7 +46,7 @@ pub record Grew (used : ℕ) (d x : Draft) (vs : List Value) : Type 0 where
 
 -- a name and what the words say of it
 pub data NameSaid (bytes dir : List ℕ) (used : ℕ) (d : Draft) : Named → Said (List Value) → Type 0 where
-  refuses : (r : ℕ) → NameSaid bytes dir used d (names.refused r) (refused r)
+  refuses : (r : Reason) → NameSaid bytes dir used d (names.refused r) (refused r)
   makes : (x : Draft) (vs : List Value) (spans : Spans) → Grew used d x vs → Left bytes dir x.cur spans → NameSaid bytes dir used d (named x) (said vs spans)
 
 rows_behind : (e : Earlier) (p : ℕ) (vs : List Value) → RowsTell e p vs → RowsTell e (p + 1) (behind vs)
@@ -117,20 +118,20 @@ module _ (rules : Rules) (bytes dir cur : List ℕ) (e : Earlier) (used : ℕ) w
       unfolding names.onward then onward printable ended spelt rows_for
       onward_said st w q (steps.refuses r) = refuses r
       onward_said st w q (steps.ends spans l) =
-          pick_two (NameSaid bytes dir used d) (eqb (length d.text) 0) _ _ _ _ (λ t. refuses 8)
+          pick_two (NameSaid bytes dir used d) (eqb (length d.text) 0) _ _ _ _ (λ t. refuses reason.BadName)
           (λ t. makes (ended p d) [] spans (record { text = sym (append-nil d.text); rows = sym (append-nil d.rows); count = sym (add-zero d.count) }) l)
       onward_said st w q (steps.gives t c v spans is long l) =
           rw (token_printed t c v is)
           (pick_two (NameSaid bytes dir used d) (both (all_allowed (prints v)) (leb (length d.text + length (prints v)) 254)) _ _ _ _
           (λ z. grow_said used d (grown s e used p t c.0 d) v (token_text t c v is) (token_rows t c v is long) (token_count t c) bytes dir _ _
           (on (grown s e used p t c.0 d) v spans (ap length (token_text t c v is) ∙ length-append d.text (prints v)) (grown_open rules bytes dir cur e used p d high o same t c q) (grown_same rules bytes dir cur e used p d high o same t c) (grown_left t c spans l)))
-          (λ z. refuses 8))
+          (λ z. refuses reason.BadName))
 
   -- position after position
   from_said : (f p : ℕ) (d : Draft) (vs : List Value) (spans : Spans) → p + f ≤ 129 → Open bytes dir d.cur → SameFrom p d.cur cur → RowsTell e p vs → Left bytes dir d.cur spans
       → NameSaid bytes dir used d (name_from s e used f p d) (tokens_from rules f p vs (length d.text) spans)
   unfolding name_from tokens_from
-  from_said zero p d vs spans h o m r l = refuses 7
+  from_said zero p d vs spans h o m r l = refuses reason.NotEnd
   from_said (suc f) p d vs spans h o m r l =
       onward_said p d (omega (arith, h)) o m (name_from s e used f (p + 1)) (λ v. tokens_from rules f (p + 1) (behind vs) (length d.text + length (prints v)))
       (λ g v rest long opened same left. rw (← long) (from_said f (p + 1) g (behind vs) rest (omega (arith, h)) opened same (rows_behind e p vs r) left))

@@ -1,5 +1,8 @@
 -- Which memory a step depends on: the ten cursors of its position, the earlier name's rows, and the kept text below where their texts end.
 use Prim.Native.Nat.{ℕ, ◌+◌, ◌-◌, ◌≤◌}
+use Rattle.spans.specs.Spans.{Next}
+use Rattle.std.specs.Prelude.{Some, None, Ok, Err}
+use Rattle.refusals.specs.declared.Reason.TheVariants as reason
 use mathlib.Core.Path.{◌≡◌, refl, ap, ◌∙◌}
 use mathlib.Core.Bool.{true}
 use mathlib.Core.List.{List}
@@ -10,8 +13,6 @@ use lib.ListN.{length, take}
 use Rattle.base.specs.Choice.{pick}
 use Rattle.base.proofs.Choice.{both_true, pick_same}
 use Rattle.spans.specs.declared.Cursor.{Cursor}
-use Rattle.spans.specs.declared.NextByte.{NextByte}
-use Rattle.spans.specs.declared.NextByte.TheVariants as byte
 use Rattle.block.specs.Block.{span_of, cursor_of}
 use Rattle.numbering.specs.declared.TokenType.{TokenType}
 use Rattle.numbering.specs.declared.TokenType.TheVariants as type
@@ -19,7 +20,6 @@ use Rattle.tokens.specs.declared.Token.{Token}
 use Rattle.numbering.specs.Types.{Rules, type_of}
 use Rattle.tables.specs.Tables.{Table, row_room, row_at}
 use Rattle.tables.proofs.Rows.{SameRows}
-use Rattle.values.specs.declared.Step.TheVariants.{Got, Refused}
 use Rattle.sources.specs.Source.{Source, source, Earlier, earlier, byte_in, four_in, text_in}
 use Rattle.values.specs.Values.{string_step, char_step, digits_step}
 use Rattle.repeats.specs.Repeats.{token_of, has_row, row_here, has_kind, delta_at, delta0_at, match_at}
@@ -55,10 +55,10 @@ module _ (rules : Rules) (bytes dir cur other : List ℕ) (p : ℕ) (same : (i :
   value_cursors e c type.End = refl
   value_cursors e c type.Other = refl
 
-  typed_cursors : (e : Earlier) (found : NextByte) → typed_step (source rules bytes dir cur) e p found ≡ typed_step (source rules bytes dir other) e p found
+  typed_cursors : (e : Earlier) (found : Next) → typed_step (source rules bytes dir cur) e p found ≡ typed_step (source rules bytes dir other) e p found
   unfolding typed_step
-  typed_cursors e (byte.Value b c) = ap (pick (barred p (type_of rules.numbers b)) (Refused 7)) (value_cursors e c (type_of rules.numbers b))
-  typed_cursors e byte.Short = refl
+  typed_cursors e (Some (b, c)) = ap (pick (barred p (type_of rules.numbers b)) (Err reason.NotEnd)) (value_cursors e c (type_of rules.numbers b))
+  typed_cursors e None = refl
 
   pub step_cursors : (e : Earlier) → step_at (source rules bytes dir cur) e p ≡ step_at (source rules bytes dir other) e p
   unfolding step_at
@@ -93,7 +93,7 @@ module _ (text others : List ℕ) (rows table : Table) (first count used p : ℕ
       pick_same (leb p count) _ _ _ _
       (λ h.
       let l : p ≤ count = leb-true _ _ h in
-      ap (λ (t : Token). Got t c)
+      ap (λ (t : Token). Ok (Some (t, c)))
       (token_same text others used (row_at rows (first + (p - 1))) texts (known.each (first + (p - 1)) (omega arith) (omega arith)) ∙ ap (token_of others) (here_same h)))
       (λ h. refl)
 
@@ -109,10 +109,10 @@ module _ (text others : List ℕ) (rows table : Table) (first count used p : ℕ
   value_earlier s c type.End = refl
   value_earlier s c type.Other = refl
 
-  typed_earlier : (s : Source) (found : NextByte) → typed_step s (earlier text rows first count) p found ≡ typed_step s (earlier others table first count) p found
+  typed_earlier : (s : Source) (found : Next) → typed_step s (earlier text rows first count) p found ≡ typed_step s (earlier others table first count) p found
   unfolding typed_step
-  typed_earlier s (byte.Value b c) = ap (pick (barred p (type_of s.rules.numbers b)) (Refused 7)) (value_earlier s c (type_of s.rules.numbers b))
-  typed_earlier s byte.Short = refl
+  typed_earlier s (Some (b, c)) = ap (pick (barred p (type_of s.rules.numbers b)) (Err reason.NotEnd)) (value_earlier s c (type_of s.rules.numbers b))
+  typed_earlier s None = refl
 
   pub step_earlier : (s : Source) → step_at s (earlier text rows first count) p ≡ step_at s (earlier others table first count) p
   unfolding step_at

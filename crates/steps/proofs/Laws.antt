@@ -1,5 +1,10 @@
 -- What a step that gave a token tells: where the token lies, how large its numbers are, and where its cursor stands.
 use Prim.Native.Nat.{ℕ, ◌+◌, ◌-◌, ◌^◌, ◌≤◌, ◌<◌}
+use Rattle.refusals.specs.declared.Reason.{Reason}
+use Rattle.spans.specs.Spans.{Next}
+use Rattle.spans.specs.declared.Bytes.{Bytes}
+use Rattle.values.specs.Values.{Step}
+use Rattle.std.specs.Prelude.{Some, None, Ok, Err, Option}
 use mathlib.Core.Path.{◌≡◌, refl, sym, ◌∙◌, subst}
 use mathlib.Core.Bool.{true, false}
 use mathlib.Core.List.{List}
@@ -14,10 +19,6 @@ use Rattle.base.proofs.Numbers.{lt_or_ge}
 use Rattle.base.specs.Every.{Below}
 use Rattle.digits.specs.Digits.{fits_width}
 use Rattle.spans.specs.declared.Cursor.{Cursor}
-use Rattle.spans.specs.declared.NextByte.{NextByte}
-use Rattle.spans.specs.declared.NextByte.TheVariants as byte
-use Rattle.spans.specs.declared.NextFour.{NextFour}
-use Rattle.spans.specs.declared.NextText.{NextText}
 use Rattle.spans.specs.Spans.{cursor, four}
 use Rattle.spans.proofs.Laws.{byte_found, four_below}
 use Rattle.block.specs.Block.{span_of, end_of, cursor_of}
@@ -33,8 +34,6 @@ use Rattle.tokens.specs.Inside.{Inside, KeptBelow}
 use Rattle.tables.specs.declared.Row.{Row}
 use Rattle.tables.proofs.Rows.{RowsBelow}
 use Rattle.kept.specs.Inside.{RowInside}
-use Rattle.values.specs.declared.Step.{Step}
-use Rattle.values.specs.declared.Step.TheVariants.{Got, End, Refused}
 use Rattle.sources.specs.Source.{Source, Earlier, byte_in, four_in, text_in}
 use Rattle.values.specs.Values.{string_step, char_step, digits_step, with_width, padded_of, padded_in, padded_step, digits0_step}
 use Rattle.sums.specs.Sums.{delta_step, delta0_step}
@@ -57,9 +56,9 @@ pub record Known (s : Source) (e : Earlier) (used p : ℕ) : Type 0 where
 
 -- what is to be shown of a step at a type
 abbrev Fine : Source → Earlier → ℕ → TokenType → Step → Type 0
-Fine s e used ty (Got t c) = Inside s.bytes e.text t × KeptBelow used t
-Fine s e used ty End = ty ≡ type.End
-Fine s e used ty (Refused n) = Unit
+Fine s e used ty (Ok (Some (t, c))) = Inside s.bytes e.text t × KeptBelow used t
+Fine s e used ty (Ok None) = ty ≡ type.End
+Fine s e used ty (Err n) = Unit
 
 fresh_inside : (bytes text : List ℕ) (a z : ℕ) → a ≤ z → z ≤ length bytes → Inside bytes text (String (record { kept = false; start = a; end = z }))
 unfolding pick
@@ -76,17 +75,17 @@ module _ (s : Source) (e : Earlier) (used p : ℕ) (k : Known s e used p) where
   string_fine : Fine s e used type.String (string_step (text_in s p string_stream))
   unfolding string_step
   string_fine =
-      text_cases s p string_stream (λ (x : NextText). Fine s e used type.String (string_step x))
+      text_cases s p string_stream (λ (x : Option Bytes). Fine s e used type.String (string_step x))
       (λ z l h. (fresh_inside s.bytes e.text (at s p string_stream) z l (omega (arith, ends 1 (omega arith))), λ q. absurd (never q)))
       tt
 
   char_fine : Fine s e used type.Char (char_step (byte_in s p char_stream))
   unfolding char_step
-  char_fine = byte_cases s p char_stream (λ (x : NextByte). Fine s e used type.Char (char_step x)) (λ l. (k.bytes (at s p char_stream), tt)) tt
+  char_fine = byte_cases s p char_stream (λ (x : Next). Fine s e used type.Char (char_step x)) (λ l. (k.bytes (at s p char_stream), tt)) tt
 
   digits_fine : Fine s e used type.Digits (digits_step (four_in s p digits_stream))
   unfolding digits_step
-  digits_fine = four_cases s p digits_stream (λ (x : NextFour). Fine s e used type.Digits (digits_step x)) (λ l. (four_below s.bytes (at s p digits_stream) k.bytes, tt)) tt
+  digits_fine = four_cases s p digits_stream (λ (x : Next). Fine s e used type.Digits (digits_step x)) (λ l. (four_below s.bytes (at s p digits_stream) k.bytes, tt)) tt
 
   padded_fine : (ty : TokenType) (n w : ℕ) (c : Cursor) → n < 2 ^ 32 → w ≤ 255 → Fine s e used ty (padded_step n w c)
   unfolding padded_step
@@ -95,9 +94,9 @@ module _ (s : Source) (e : Earlier) (used p : ℕ) (k : Known s e used p) where
   digits0_fine : Fine s e used type.Digits0 (digits0_step (padded_in s p))
   unfolding padded_of with_width digits0_step
   digits0_fine =
-      four_cases s p digits0_stream (λ (x : NextFour). Fine s e used type.Digits0 (digits0_step (padded_of x (byte_in s p dzlen_stream))))
+      four_cases s p digits0_stream (λ (x : Next). Fine s e used type.Digits0 (digits0_step (padded_of x (byte_in s p dzlen_stream))))
       (λ l.
-      byte_cases s p dzlen_stream (λ (x : NextByte). Fine s e used type.Digits0 (digits0_step (with_width (four s.bytes (at s p digits0_stream)) (cursor (at s p digits0_stream + 4)) x)))
+      byte_cases s p dzlen_stream (λ (x : Next). Fine s e used type.Digits0 (digits0_step (with_width (four s.bytes (at s p digits0_stream)) (cursor (at s p digits0_stream + 4)) x)))
       (λ m. padded_fine type.Digits0 _ _ _ (four_below s.bytes (at s p digits0_stream) k.bytes) (omega (arith, k.bytes (at s p dzlen_stream))))
       tt)
       tt
@@ -119,7 +118,7 @@ module _ (s : Source) (e : Earlier) (used p : ℕ) (k : Known s e used p) where
       let n = (row_here e p).number in
       pick_holds (λ (x : Step). Fine s e used type.Delta x) (has_kind e p 7) _ _
       (λ r.
-      byte_cases s p ddelta_stream (λ (x : NextByte). Fine s e used type.Delta (delta_step n x))
+      byte_cases s p ddelta_stream (λ (x : Next). Fine s e used type.Delta (delta_step n x))
       (λ l. pick_holds (λ (x : Step). Fine s e used type.Delta x) (ltb (n + get_or s.bytes (at s p ddelta_stream) 0) (2 ^ 32)) _ _ (λ g. (ltb-true _ _ g, tt)) (λ g. tt))
       tt)
       (λ r. tt)
@@ -133,7 +132,7 @@ module _ (s : Source) (e : Earlier) (used p : ℕ) (k : Known s e used p) where
       (λ r.
       let b = both_true (has_row e p) (eqb (row_here e p).kind 4) r in
       let v : w ≤ 254 = (row_inside b.0).kind.width (eqb-true _ _ b.1) in
-      byte_cases s p ddelta0_stream (λ (x : NextByte). Fine s e used type.Delta0 (delta0_step n w x))
+      byte_cases s p ddelta0_stream (λ (x : Next). Fine s e used type.Delta0 (delta0_step n w x))
       (λ l. pick_holds (λ (x : Step). Fine s e used type.Delta0 x) (ltb (n + get_or s.bytes (at s p ddelta0_stream) 0) (2 ^ 32)) _ _ (λ g. padded_fine type.Delta0 _ w _ (ltb-true _ _ g) (omega arith)) (λ g. tt))
       tt)
       (λ r. tt)
@@ -180,7 +179,7 @@ module _ (s : Source) (e : Earlier) (used p : ℕ) (k : Known s e used p) where
 pub record Given (s : Source) (e : Earlier) (used p : ℕ) (t : Token) (c : Cursor) : Type 0 where
   pub code : ℕ
   pub next : Cursor
-  pub typed : byte_in s p 0 ≡ byte.Value code next
+  pub typed : byte_in s p 0 ≡ Some (code, next)
   pub there : cursor_of s.cur (span_of p 0) + 1 ≤ end_of s.dir (span_of p 0)
   pub before : p < 128
   pub inside : Inside s.bytes e.text t
@@ -191,22 +190,22 @@ pub record Given (s : Source) (e : Earlier) (used p : ℕ) (t : Token) (c : Curs
 pub record Ended (s : Source) (p : ℕ) : Type 0 where
   pub code : ℕ
   pub next : Cursor
-  pub typed : byte_in s p 0 ≡ byte.Value code next
+  pub typed : byte_in s p 0 ≡ Some (code, next)
   pub there : cursor_of s.cur (span_of p 0) + 1 ≤ end_of s.dir (span_of p 0)
   pub ends : type_of s.rules.numbers code ≡ type.End
 
-not_got : {n : ℕ} {t : Token} {c : Cursor} → Refused n ≡ Got t c → ⊥
+not_got : {r : Reason} {t : Token} {c : Cursor} → ◌≡◌ {A = Step} (Err r) (Ok (Some (t, c))) → ⊥
 not_got e = let z : ◌≡◌ {A = ℕ} 0 1 = cc in omega arith
 
-refused_end : {n : ℕ} → Refused n ≡ End → ⊥
+refused_end : {r : Reason} → ◌≡◌ {A = Step} (Err r) (Ok None) → ⊥
 refused_end e = let z : ◌≡◌ {A = ℕ} 0 1 = cc in omega arith
 
-end_got : {t : Token} {c : Cursor} → End ≡ Got t c → ⊥
+end_got : {t : Token} {c : Cursor} → ◌≡◌ {A = Step} (Ok None) (Ok (Some (t, c))) → ⊥
 end_got e = let z : ◌≡◌ {A = ℕ} 0 1 = cc in omega arith
 
 module _ (s : Source) (e : Earlier) (p : ℕ) where
   -- a type that gives a token is one that carries something
-  got_carries : (n : Cursor) (ty : TokenType) {t : Token} {c : Cursor} → value_step s e p n ty ≡ Got t c → carries ty ≡ true
+  got_carries : (n : Cursor) (ty : TokenType) {t : Token} {c : Cursor} → value_step s e p n ty ≡ Ok (Some (t, c)) → carries ty ≡ true
   unfolding value_step carries
   got_carries n type.String q = refl
   got_carries n type.Char q = refl
@@ -226,18 +225,18 @@ module _ (s : Source) (e : Earlier) (p : ℕ) where
       (λ (l : 128 ≤ p). let m : p ≡ 128 = omega arith in absurd (never (sym b ∙ both_of (eq-eqb _ _ m) q)))
       (lt_or_ge p 128)
 
-  byte_there : {b : ℕ} {n : Cursor} → byte_in s p 0 ≡ byte.Value b n → cursor_of s.cur (span_of p 0) + 1 ≤ end_of s.dir (span_of p 0)
+  byte_there : {b : ℕ} {n : Cursor} → byte_in s p 0 ≡ Some (b, n) → cursor_of s.cur (span_of p 0) + 1 ≤ end_of s.dir (span_of p 0)
   unfolding byte_in
   byte_there q = (byte_found s.bytes (cursor_of s.cur (span_of p 0)) (end_of s.dir (span_of p 0)) q).room
 
-typed_given : (s : Source) (e : Earlier) (used p : ℕ) (t : Token) (c : Cursor) → Known s e used p → (found : NextByte) → byte_in s p 0 ≡ found → typed_step s e p found ≡ Got t c → Given s e used p t c
+typed_given : (s : Source) (e : Earlier) (used p : ℕ) (t : Token) (c : Cursor) → Known s e used p → (found : Next) → byte_in s p 0 ≡ found → typed_step s e p found ≡ Ok (Some (t, c)) → Given s e used p t c
 unfolding typed_step
-typed_given s e used p t c k (byte.Value b n) q r =
+typed_given s e used p t c k (Some (b, n)) q r =
     by_test (barred p (type_of s.rules.numbers b))
     (λ h. absurd (not_got (sym (pick_true _ _ h) ∙ r)))
     (λ h.
-    let v : value_step s e p n (type_of s.rules.numbers b) ≡ Got t c = sym (pick_false _ _ h) ∙ r in
-    let f : Fine s e used (type_of s.rules.numbers b) (Got t c) = subst (λ (x : Step). Fine s e used (type_of s.rules.numbers b) x) v (value_fine s e used p k n (type_of s.rules.numbers b)) in
+    let v : value_step s e p n (type_of s.rules.numbers b) ≡ Ok (Some (t, c)) = sym (pick_false _ _ h) ∙ r in
+    let f : Fine s e used (type_of s.rules.numbers b) (Ok (Some (t, c))) = subst (λ (x : Step). Fine s e used (type_of s.rules.numbers b) x) v (value_fine s e used p k n (type_of s.rules.numbers b)) in
     record {
       code = b;
       next = n;
@@ -248,19 +247,19 @@ typed_given s e used p t c k (byte.Value b n) q r =
       below = f.1;
       moved = value_moved s e p n (type_of s.rules.numbers b) v;
     })
-typed_given s e used p t c k byte.Short q r = absurd (not_got r)
+typed_given s e used p t c k None q r = absurd (not_got r)
 
-pub given : (s : Source) (e : Earlier) (used p : ℕ) {t : Token} {c : Cursor} → Known s e used p → step_at s e p ≡ Got t c → Given s e used p t c
+pub given : (s : Source) (e : Earlier) (used p : ℕ) {t : Token} {c : Cursor} → Known s e used p → step_at s e p ≡ Ok (Some (t, c)) → Given s e used p t c
 unfolding step_at
 given s e used p {t} {c} k r = typed_given s e used p t c k (byte_in s p 0) refl r
 
-typed_ended : (s : Source) (e : Earlier) (used p : ℕ) → Known s e used p → (found : NextByte) → byte_in s p 0 ≡ found → typed_step s e p found ≡ End → Ended s p
+typed_ended : (s : Source) (e : Earlier) (used p : ℕ) → Known s e used p → (found : Next) → byte_in s p 0 ≡ found → typed_step s e p found ≡ Ok None → Ended s p
 unfolding typed_step
-typed_ended s e used p k (byte.Value b n) q r =
+typed_ended s e used p k (Some (b, n)) q r =
     by_test (barred p (type_of s.rules.numbers b))
     (λ h. absurd (refused_end (sym (pick_true _ _ h) ∙ r)))
     (λ h.
-    let v : value_step s e p n (type_of s.rules.numbers b) ≡ End = sym (pick_false _ _ h) ∙ r in
+    let v : value_step s e p n (type_of s.rules.numbers b) ≡ Ok None = sym (pick_false _ _ h) ∙ r in
     record {
       code = b;
       next = n;
@@ -268,8 +267,8 @@ typed_ended s e used p k (byte.Value b n) q r =
       there = byte_there s e p q;
       ends = subst (λ (x : Step). Fine s e used (type_of s.rules.numbers b) x) v (value_fine s e used p k n (type_of s.rules.numbers b));
     })
-typed_ended s e used p k byte.Short q r = absurd (refused_end r)
+typed_ended s e used p k None q r = absurd (refused_end r)
 
-pub ended : (s : Source) (e : Earlier) (used p : ℕ) → Known s e used p → step_at s e p ≡ End → Ended s p
+pub ended : (s : Source) (e : Earlier) (used p : ℕ) → Known s e used p → step_at s e p ≡ Ok None → Ended s p
 unfolding step_at
 ended s e used p k r = typed_ended s e used p k (byte_in s p 0) refl r

@@ -1,5 +1,9 @@
 -- Where the cursor past a value stands: in the span of its type.
 use Prim.Native.Nat.{ℕ, ◌+◌, ◌^◌, ◌≤◌}
+use Rattle.spans.specs.Spans.{Next}
+use Rattle.spans.specs.declared.Bytes.{Bytes}
+use Rattle.values.specs.Values.{Step}
+use Rattle.std.specs.Prelude.{Some, None, Ok, Err, Option}
 use mathlib.Core.Path.{◌≡◌, subst}
 use native.Mathlib.Omega.{arith}
 use lib.Dec.{ltb}
@@ -7,16 +11,11 @@ use lib.ListN.{get_or}
 use Rattle.base.proofs.Choice.{pick_holds}
 use Rattle.digits.specs.Digits.{fits_width}
 use Rattle.spans.specs.declared.Cursor.{Cursor}
-use Rattle.spans.specs.declared.NextByte.{NextByte}
-use Rattle.spans.specs.declared.NextFour.{NextFour}
-use Rattle.spans.specs.declared.NextText.{NextText}
 use Rattle.spans.specs.Spans.{cursor, four}
 use Rattle.block.specs.Streams.{string_stream, char_stream, digits0_stream, dzlen_stream, digits_stream, ddelta_stream, ddelta0_stream}
 use Rattle.numbering.specs.declared.TokenType.{TokenType}
 use Rattle.numbering.specs.declared.TokenType.TheVariants as type
 use Rattle.tokens.specs.declared.Token.{Token}
-use Rattle.values.specs.declared.Step.{Step}
-use Rattle.values.specs.declared.Step.TheVariants.{Got, End, Refused}
 use Rattle.sources.specs.Source.{Source, Earlier, byte_in}
 use Rattle.values.specs.Values.{string_step, char_step, digits_step, with_width, padded_of, padded_in, padded_step, digits0_step}
 use Rattle.sums.specs.Sums.{delta_step, delta0_step}
@@ -38,9 +37,9 @@ Moved s p c type.Other = Unit
 
 -- what is to be shown of a step at a type
 abbrev Past : Source → ℕ → TokenType → Step → Type 0
-Past s p ty (Got t c) = Moved s p c.0 ty
-Past s p ty End = Unit
-Past s p ty (Refused n) = Unit
+Past s p ty (Ok (Some (t, c))) = Moved s p c.0 ty
+Past s p ty (Ok None) = Unit
+Past s p ty (Err n) = Unit
 
 module _ (s : Source) (e : Earlier) (p : ℕ) where
   padded_past : (ty : TokenType) (n w : ℕ) (c : Cursor) → Moved s p c.0 ty → Past s p ty (padded_step n w c)
@@ -49,13 +48,13 @@ module _ (s : Source) (e : Earlier) (p : ℕ) where
 
   value_past_law : (c : Cursor) (ty : TokenType) → Past s p ty (value_step s e p c ty)
   unfolding value_step string_step char_step digits_step padded_of with_width digits0_step delta_at delta_step delta0_at delta0_step match_at
-  value_past_law c type.String = text_cases s p string_stream (λ (x : NextText). Past s p type.String (string_step x)) (λ z l h. (omega arith, omega arith)) tt
-  value_past_law c type.Char = byte_cases s p char_stream (λ (x : NextByte). Past s p type.Char (char_step x)) (λ l. (omega arith, l)) tt
-  value_past_law c type.Digits = four_cases s p digits_stream (λ (x : NextFour). Past s p type.Digits (digits_step x)) (λ l. (omega arith, l)) tt
+  value_past_law c type.String = text_cases s p string_stream (λ (x : Option Bytes). Past s p type.String (string_step x)) (λ z l h. (omega arith, omega arith)) tt
+  value_past_law c type.Char = byte_cases s p char_stream (λ (x : Next). Past s p type.Char (char_step x)) (λ l. (omega arith, l)) tt
+  value_past_law c type.Digits = four_cases s p digits_stream (λ (x : Next). Past s p type.Digits (digits_step x)) (λ l. (omega arith, l)) tt
   value_past_law c type.Digits0 =
-      four_cases s p digits0_stream (λ (x : NextFour). Past s p type.Digits0 (digits0_step (padded_of x (byte_in s p dzlen_stream))))
+      four_cases s p digits0_stream (λ (x : Next). Past s p type.Digits0 (digits0_step (padded_of x (byte_in s p dzlen_stream))))
       (λ l.
-      byte_cases s p dzlen_stream (λ (x : NextByte). Past s p type.Digits0 (digits0_step (with_width (four s.bytes (at s p digits0_stream)) (cursor (at s p digits0_stream + 4)) x)))
+      byte_cases s p dzlen_stream (λ (x : Next). Past s p type.Digits0 (digits0_step (with_width (four s.bytes (at s p digits0_stream)) (cursor (at s p digits0_stream + 4)) x)))
       (λ m. padded_past type.Digits0 _ _ _ ((omega arith, l), m))
       tt)
       tt
@@ -63,7 +62,7 @@ module _ (s : Source) (e : Earlier) (p : ℕ) where
       let n = (row_here e p).number in
       pick_holds (λ (x : Step). Past s p type.Delta x) (has_kind e p 7) _ _
       (λ r.
-      byte_cases s p ddelta_stream (λ (x : NextByte). Past s p type.Delta (delta_step n x))
+      byte_cases s p ddelta_stream (λ (x : Next). Past s p type.Delta (delta_step n x))
       (λ l. pick_holds (λ (x : Step). Past s p type.Delta x) (ltb (n + get_or s.bytes (at s p ddelta_stream) 0) (2 ^ 32)) _ _ (λ g. (omega arith, l)) (λ g. tt))
       tt)
       (λ r. tt)
@@ -72,7 +71,7 @@ module _ (s : Source) (e : Earlier) (p : ℕ) where
       let w = (row_here e p).width in
       pick_holds (λ (x : Step). Past s p type.Delta0 x) (has_kind e p 4) _ _
       (λ r.
-      byte_cases s p ddelta0_stream (λ (x : NextByte). Past s p type.Delta0 (delta0_step n w x))
+      byte_cases s p ddelta0_stream (λ (x : Next). Past s p type.Delta0 (delta0_step n w x))
       (λ l. pick_holds (λ (x : Step). Past s p type.Delta0 x) (ltb (n + get_or s.bytes (at s p ddelta0_stream) 0) (2 ^ 32)) _ _ (λ g. padded_past type.Delta0 _ _ _ (omega arith, l)) (λ g. tt))
       tt)
       (λ r. tt)
@@ -80,5 +79,5 @@ module _ (s : Source) (e : Earlier) (p : ℕ) where
   value_past_law c type.End = tt
   value_past_law c type.Other = tt
 
-  pub value_moved : (n : Cursor) (ty : TokenType) {t : Token} {c : Cursor} → value_step s e p n ty ≡ Got t c → Moved s p c.0 ty
+  pub value_moved : (n : Cursor) (ty : TokenType) {t : Token} {c : Cursor} → value_step s e p n ty ≡ Ok (Some (t, c)) → Moved s p c.0 ty
   value_moved n ty v = subst (λ (x : Step). Past s p ty x) v (value_past_law n ty)

@@ -2,11 +2,11 @@
 // A step reads and judges; it writes nothing.
 #![tactic(auto)]
 
-ghost use Rattle.std.specs.Prelude.{◌≡◌, ℕ, ◌≤◌, ◌<◌, ◌+◌, ◌^◌};
+ghost use Rattle.std.specs.Prelude.{◌≡◌, ℕ, ◌≤◌, ◌<◌, ◌+◌, ◌^◌, Err};
 ghost use Rattle.block.specs.Open.{Open};
 ghost use Rattle.base.specs.Choice.{pick};
 ghost use Rattle.spans.specs.declared.Cursor.{Cursor};
-ghost use Rattle.values.specs.declared.Step.TheVariants.{Refused};
+ghost use Rattle.refusals.specs.declared.Reason.TheVariants.{NotEnd};
 ghost use Rattle.bars.specs.Bars.{carries};
 ghost use Rattle.sources.specs.Source.{Source, Earlier, source, earlier, block_lent};
 ghost use Rattle.numbering.specs.Types.{Rules};
@@ -14,9 +14,10 @@ ghost use Rattle.steps.specs.Steps.{value_step, typed_step};
 ghost use Rattle.repeats.specs.Sound.{Rows, reach};
 ghost use Rattle.tables.specs.Tables.{in_rows, rows_lent};
 
-use block::{Setting, stream};
+use block::{Setting, Stream};
 use numbering::TokenType;
-use spans::{Cursor, NextByte, Position};
+use refusals::Reason;
+use spans::{Cursor, Position};
 use values::Step;
 
 // The token of a type that has been read, c being the cursor past it.
@@ -43,45 +44,39 @@ pub fn value_step(
             dir,
             cursors,
             p,
-            stream::STRING,
+            Stream::String,
         )),
         TokenType::Char => values::char_step(sources::byte_in(
             bytes,
             dir,
             cursors,
             p,
-            stream::CHAR,
+            Stream::Char,
         )),
         TokenType::Digits => values::digits_step(sources::four_in(
             bytes,
             dir,
             cursors,
             p,
-            stream::DIGITS,
+            Stream::Digits,
         )),
         TokenType::Digits0 => values::digits0_at(bytes, dir, cursors, p),
         TokenType::Delta => repeats::delta_at(bytes, dir, cursors, rows, first, count, p),
         TokenType::Delta0 => repeats::delta0_at(bytes, dir, cursors, rows, first, count, p),
         TokenType::Match => repeats::match_at(text, rows, first, count, p, c),
-        TokenType::End => Step::End,
-        TokenType::Other => Step::Refused(3),
+        TokenType::End => Ok(None),
+        TokenType::Other => Err(Reason::UnknownType),
     }
 }
 
 // At the last position, which takes END alone; 3 is judged before 7.
 fn last_step(t: TokenType) -> Step
-    ensures { (s : Source) (e : Earlier) (p : ℕ) (c : Cursor) → result ≡ pick (carries t) (Refused 7) (value_step s e p c t) }
+    ensures { (s : Source) (e : Earlier) (p : ℕ) (c : Cursor) → result ≡ pick (carries t) (Err NotEnd) (value_step s e p c t) }
 {
     match t {
-        TokenType::String => Step::Refused(7),
-        TokenType::Char => Step::Refused(7),
-        TokenType::Digits => Step::Refused(7),
-        TokenType::Digits0 => Step::Refused(7),
-        TokenType::Delta => Step::Refused(7),
-        TokenType::Delta0 => Step::Refused(7),
-        TokenType::Match => Step::Refused(7),
-        TokenType::End => Step::End,
-        TokenType::Other => Step::Refused(3),
+        TokenType::End => Ok(None),
+        TokenType::Other => Err(Reason::UnknownType),
+        _ => Err(Reason::NotEnd),
     }
 }
 
@@ -97,23 +92,19 @@ pub fn typed_step(
     first: u32,
     count: u32,
     p: Position,
-    found: NextByte,
+    found: Option<(u8, Cursor)>,
 ) -> Step
     requires fact { Open bytes.now dir.now cursors.now }
     requires rows { Rows (reach text.now) (earlier text.now (in_rows rows.now) first count) }
     requires count_bound { (first + count < 2 ^ 32) × ((1 ≤ p.0) × (p.0 ≤ 128)) }
     ensures { result ≡ typed_step (block_lent set bytes.now dir.now cursors.now) (earlier text.now (rows_lent rows.now) first count) p.0 found }
 {
-    match found {
-        NextByte::Value(b, c) => {
-            let kind = set.kind;
-            if bars::is_last(p) {
-                last_step(numbering::type_of(kind, b))
-            } else {
-                let t = numbering::type_of(kind, b);
-                value_step(bytes, dir, cursors, text, rows, first, count, p, c, t)
-            }
-        }
-        NextByte::Short => Step::Refused(2),
+    let (b, c) = found.ok_or(Reason::Short)?;
+    let kind = set.kind;
+    if bars::is_last(p) {
+        last_step(numbering::type_of(kind, b))
+    } else {
+        let t = numbering::type_of(kind, b);
+        value_step(bytes, dir, cursors, text, rows, first, count, p, c, t)
     }
 }

@@ -73,11 +73,7 @@ pub fn put_entry(names: &mut [u32], i: u32, e: Entry)
     base::put_five(
         names,
         ENTRY * (i as usize),
-        e.start,
-        e.length,
-        e.first,
-        e.rows,
-        e.distance,
+        [e.start, e.length, e.first, e.rows, e.distance],
     );
 }
 
@@ -85,5 +81,9 @@ pub fn put_row(rows: &mut [u32], i: usize, r: Row)
     requires { i < row_room (in_rows rows.old) }
     ensures { rows_left rows.new ≡ put_rows (rows_lent rows.old) i (r ∷ []) }
 {
-    base::put_five(rows, ROW * i, r.kind, r.number, r.width, r.start, r.length);
+    base::put_five(
+        rows,
+        ROW * i,
+        [r.kind, r.number, r.width, r.start, r.length],
+    );
 }

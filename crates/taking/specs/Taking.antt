@@ -1,5 +1,8 @@
 -- One token taken, judged or kept: what it asks for, and what a turn answers at a step.
-use Rattle.std.specs.Prelude.{ℕ, ◌+◌, ◌-◌, ◌^◌, ◌≤◌, ◌<◌, Bool, List, ◌≡◌, length}
+use Rattle.std.specs.Prelude.{ℕ, ◌+◌, ◌-◌, ◌^◌, ◌≤◌, ◌<◌, Bool, List, ◌≡◌, length, Result, Option, Some, None, Ok, Err}
+use Rattle.refusals.specs.declared.Reason.{Reason}
+use Rattle.values.specs.Values.{Step}
+use Rattle.refusals.specs.declared.Reason.TheVariants as reason
 use Rattle.base.specs.Choice.{pick, either}
 use Rattle.spans.specs.declared.Cursor.{Cursor}
 use Rattle.block.specs.Block.{span_of, cursor_of}
@@ -9,14 +12,14 @@ use Rattle.numbering.specs.declared.TokenType.{TokenType}
 use Rattle.tokens.specs.declared.Token.{Token}
 use Rattle.tokens.specs.Tokens.{bytes_of, length_of}
 use Rattle.tokens.specs.Inside.{KeptBelow}
-use Rattle.values.specs.declared.Step.{Step}
-use Rattle.values.specs.declared.Step.TheVariants as step
 use Rattle.moving.specs.Moves.{Movable}
 use Rattle.names.specs.Names.{printable}
 use Rattle.names.specs.Keeps.{Memory, put_token}
 use Rattle.taking.specs.declared.Place.{Place}
-use Rattle.taking.specs.declared.Turn.{Turn}
-use Rattle.taking.specs.declared.Turn.TheVariants.{On, End, Refused}
+
+-- what a turn makes of a name: so many bytes longer, nothing at its END, or why it is refused
+abbrev pub Turn : Type 0
+Turn = Result (Option ℕ) Reason
 
 -- where a turn stands: its position, the length so far, and where the text and the rows of the name begin
 abbrev pub place_of : ℕ → ℕ → ℕ → ℕ → Place
@@ -32,9 +35,9 @@ taken keeping bytes text t len = either keeping (printable (bytes_of bytes text 
 
 -- what a turn answers at a step: how many bytes the name is longer, its END, or the refusal
 unfoldable pub turn_of : Bool → List ℕ → List ℕ → ℕ → Step → Turn
-turn_of keeping bytes text len (step.Got t c) = pick (taken keeping bytes text t len) (On (length_of t)) (Refused 8)
-turn_of keeping bytes text len step.End = End
-turn_of keeping bytes text len (step.Refused r) = Refused r
+turn_of keeping bytes text len (Ok (Some (t, c))) = pick (taken keeping bytes text t len) (Ok (Some (length_of t))) (Err reason.BadName)
+turn_of keeping bytes text len (Ok None) = Ok None
+turn_of keeping bytes text len (Err r) = Err r
 
 -- a token that can be kept: there is room for it, and a cursor has 32 bits
 pub record Keepable (t : Token) (ty : TokenType) (p at row : ℕ) (cur text : List ℕ) (rows : Table) : Type 0 where

@@ -1,10 +1,9 @@
 // One token of a name taken where a turn stands: judged over what is lent and not written, or kept.
 #![tactic(auto)]
 
-ghost use Rattle.std.specs.Prelude.{◌≡◌, true};
+ghost use Rattle.std.specs.Prelude.{◌≡◌, true, Ok, Some};
 ghost use Rattle.numbering.specs.Types.{numbers_of};
 ghost use Rattle.tokens.specs.Inside.{Inside};
-ghost use Rattle.values.specs.declared.Step.TheVariants.{Got};
 ghost use Rattle.names.specs.Names.{type_in};
 ghost use Rattle.names.specs.Keeps.{memory_lent, memory_left};
 ghost use Rattle.taking.specs.Taking.{Placed, turn_of, KeepableAt, take_put};
@@ -12,16 +11,12 @@ ghost use Rattle.tables.specs.Tables.{in_rows};
 
 use block::Setting;
 use names::{judging, keeping};
-use spans::{Cursor, NextByte, Position};
+use refusals::Reason;
+use spans::{Cursor, Position};
 use tokens::Token;
 
-// What a turn of the walk makes of a name: so many bytes longer, at its END, or refused.
-#[derive(Clone, Copy)]
-pub enum Turn {
-    On(u32),
-    End,
-    Refused(u32),
-}
+// What a turn of the walk makes of a name: so many bytes longer, nothing at its END, or why it is refused.
+pub type Turn = Result<Option<u32>, Reason>;
 
 // Where a turn stands: its position, the name's length so far, and where the name's text and rows begin.
 #[derive(Clone, Copy)]
@@ -37,7 +32,7 @@ pub fn take(
     set: Setting,
     keeping: bool,
     t: Token,
-    found: NextByte,
+    found: Option<(u8, Cursor)>,
     c: Cursor,
     bytes: &[u8],
     cursors: &mut [u32],
@@ -48,7 +43,7 @@ pub fn take(
     requires inside { Inside bytes.now text.old t }
     requires placed { Placed at }
     requires keepable_at { keeping ≡ true → KeepableAt at t (type_in (numbers_of set.kind) found) cursors.old text.old (in_rows rows.old) }
-    ensures value { result ≡ turn_of keeping bytes.now text.old at.len (Got t c) }
+    ensures value { result ≡ turn_of keeping bytes.now text.old at.len (Ok (Some (t, c))) }
     ensures cursors_value { memory_left text.new rows.new cursors.new ≡ take_put keeping bytes.now t (type_in (numbers_of set.kind) found) c at (memory_lent text.old rows.old cursors.old) }
 {
     if keeping {
@@ -57,12 +52,12 @@ pub fn take(
         let to = at.used + at.len;
         let row = at.row + (p.0 - 1);
         let w = keeping::keep_token(t, bytes, cursors, text, rows, p, ty, c, to, row);
-        return Turn::On(w);
+        return Ok(Some(w));
     }
     let w = tokens::length(t);
     if judging::prints(t, w, bytes, text, at.len) {
-        Turn::On(w)
+        Ok(Some(w))
     } else {
-        Turn::Refused(8)
+        Err(Reason::BadName)
     }
 }

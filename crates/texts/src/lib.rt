@@ -17,7 +17,7 @@ fn put_string(out: &mut [u8], at: usize, name: &[u8], from: usize, to: usize) ->
     ensures { page out.new result ≡ said (string_text name.now from to) (page out.old at) }
 {
     let next = pages::put(out, at, b" STRING ");
-    pages::put_part(out, next, name, from, to)
+    pages::put(out, next, &name[from..to])
 }
 
 fn put_char(out: &mut [u8], at: usize, b: u8) -> usize

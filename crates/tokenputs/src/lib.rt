@@ -8,7 +8,7 @@ ghost use Rattle.numbering.specs.Types.{rules_of};
 ghost use Rattle.laying.specs.Passes.{world, run_of, Roomy};
 ghost use Rattle.tokenputs.specs.TokenPuts.{piece_type, choice_type, choice_puts, token_puts};
 
-use block::{Setting, stream};
+use block::{Setting, Stream};
 use choices::Choice;
 use laying::Pass;
 use numbering::TokenType;
@@ -55,7 +55,7 @@ fn put_choice(
 {
     let kind = set.kind;
     let b = numbering::type_number(kind, choice_type(c));
-    let span = block::span_of(p, stream::TYPE);
+    let span = block::span_of(p, Stream::Type);
     let next = laying::put_byte(pass, total, directory, bytes, span, b);
     valueputs::put_value(pass, next, directory, bytes, name, p, c)
 }
@@ -79,6 +79,7 @@ pub fn put_tokens(
     let mut p: u32 = 1;
     let mut a: usize = 0;
     let mut b: usize = 0;
+    // Not a `for`: where the next tokens of the two names start is found from where these end.
     while a < name.len() {
         let here = Position(p);
         let e = splitting::cut_at(table, name, here, a);
@@ -91,6 +92,6 @@ pub fn put_tokens(
     }
     let kind = set.kind;
     let b = numbering::type_number(kind, TokenType::End);
-    let span = block::span_of(Position(p), stream::TYPE);
+    let span = block::span_of(Position(p), Stream::Type);
     laying::put_byte(pass, sum, directory, bytes, span, b)
 }

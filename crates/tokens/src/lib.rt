@@ -94,9 +94,9 @@ fn text_allowed(t: Text, bytes: &[u8], text: &[u8]) -> bool
     let from = t.start as usize;
     let to = t.end as usize;
     if t.kept {
-        classes::all_allowed(text, from, to)
+        classes::all_allowed(&text[from..to])
     } else {
-        classes::all_allowed(bytes, from, to)
+        classes::all_allowed(&bytes[from..to])
     }
 }
 
@@ -124,7 +124,7 @@ fn put_text(t: Text, bytes: &[u8], text: &mut [u8], at: usize)
     if t.kept {
         base::copy_within(text, from, to, at);
     } else {
-        base::copy_at(bytes, from, to, text, at);
+        base::put_all(text, at, &bytes[from..to]);
     }
 }
 
@@ -142,7 +142,7 @@ pub fn put(t: Token, bytes: &[u8], text: &mut [u8], at: usize) -> u32
             text_length(s)
         }
         Token::Char(b) => {
-            base::put_byte(text, at, b);
+            base::put(text, at, b);
             1
         }
         Token::Digits(n) => digits::print(n, text, at) as u32,

@@ -1,13 +1,12 @@
 -- One turn of the walk over a name's positions, which is taken twice: the name is judged, and then kept.
-use Rattle.std.specs.Prelude.{ℕ, ◌+◌, ◌-◌, ◌≤◌, ◌<◌, Bool, List, length}
+use Rattle.std.specs.Prelude.{ℕ, ◌+◌, ◌-◌, ◌≤◌, ◌<◌, Bool, List, length, Some, None, Ok, Err}
+use Rattle.values.specs.Values.{Step}
 use Rattle.base.specs.Lent.{Buffer}
 use Rattle.block.specs.declared.Setting.{Setting}
 use Rattle.tables.specs.Tables.{Table, in_rows, row_room}
 use Rattle.numbering.specs.declared.TokenType.{TokenType}
 use Rattle.numbering.specs.Types.{rules_of}
 use Rattle.tokens.specs.Tokens.{length_of}
-use Rattle.values.specs.declared.Step.{Step}
-use Rattle.values.specs.declared.Step.TheVariants as step
 use Rattle.sources.specs.Source.{source, earlier, block_lent}
 use Rattle.steps.specs.Steps.{step_at}
 use Rattle.names.specs.Names.{type_at}
@@ -22,9 +21,9 @@ step_lent set bytes dir cursors text rows first count at =
 
 -- what a turn puts down
 unfoldable pub turn_put : Bool → List ℕ → Step → TokenType → Place → Memory → Memory
-turn_put keeping bytes (step.Got t c) ty at m = take_put keeping bytes t ty c at m
-turn_put keeping bytes step.End ty at m = m
-turn_put keeping bytes (step.Refused r) ty at m = m
+turn_put keeping bytes (Ok (Some (t, c))) ty at m = take_put keeping bytes t ty c at m
+turn_put keeping bytes (Ok None) ty at m = m
+turn_put keeping bytes (Err r) ty at m = m
 
 abbrev pub turn_put_lent : Setting → Bool → Buffer → Buffer → Buffer → Buffer → Buffer → ℕ → ℕ → Place → Memory
 turn_put_lent set keeping bytes dir cursors text rows first count at =
@@ -32,6 +31,6 @@ turn_put_lent set keeping bytes dir cursors text rows first count at =
 
 -- room for a token and its row
 abbrev pub RoomAt : Step → Place → List ℕ → Table → Type 0
-RoomAt (step.Got t c) at text rows = (at.used + at.len + length_of t ≤ length text) × (at.row + (at.p.0 - 1) < row_room rows)
-RoomAt step.End at text rows = Unit
-RoomAt (step.Refused r) at text rows = Unit
+RoomAt (Ok (Some (t, c))) at text rows = (at.used + at.len + length_of t ≤ length text) × (at.row + (at.p.0 - 1) < row_room rows)
+RoomAt (Ok None) at text rows = Unit
+RoomAt (Err r) at text rows = Unit

@@ -10,20 +10,14 @@ ghost use Rattle.taking.specs.Taking.{place_of, Placed, turn_of};
 ghost use Rattle.turns.specs.Turns.{step_lent, turn_put_lent, RoomAt};
 ghost use Rattle.tables.specs.Tables.{in_rows};
 
-use block::{Setting, stream};
+use block::{Setting, Stream};
 use spans::Position;
 use taking::{Place, Turn};
-use values::Step;
 
 pub fn place(p: Position, len: u32, used: u32, row: u32) -> Place
     ensures { result ≡ place_of p.0 len used row }
 {
-    Place {
-        p: p,
-        len: len,
-        used: used,
-        row: row,
-    }
+    Place { p, len, used, row }
 }
 
 // What stands at a position, judged or kept.
@@ -47,10 +41,9 @@ pub fn turn(
     ensures cursors_value { memory_left text.new rows.new cursors.new ≡ turn_put_lent set keeping bytes.now dir.now cursors.old text.old rows.old first count at }
 {
     let p = at.p;
-    let found = sources::byte_in(bytes, dir, cursors, p, stream::TYPE);
-    match steps::typed_step(set, bytes, dir, cursors, text, rows, first, count, p, found) {
-        Step::Got(t, c) => taking::take(set, keeping, t, found, c, bytes, cursors, text, rows, at),
-        Step::End => Turn::End,
-        Step::Refused(r) => Turn::Refused(r),
+    let found = sources::byte_in(bytes, dir, cursors, p, Stream::Type);
+    match steps::typed_step(set, bytes, dir, cursors, text, rows, first, count, p, found)? {
+        Some((t, c)) => taking::take(set, keeping, t, found, c, bytes, cursors, text, rows, at),
+        None => Ok(None),
     }
 }

@@ -7,7 +7,7 @@ ghost use Rattle.choices.specs.Choices.{ChoiceWithin};
 ghost use Rattle.laying.specs.Passes.{world, run_of, Roomy};
 ghost use Rattle.valueputs.specs.ValuePuts.{piece_puts, value_puts};
 
-use block::stream;
+use block::Stream;
 use choices::Choice;
 use laying::Pass;
 use pieces::Piece;
@@ -28,21 +28,21 @@ fn put_piece(
 {
     match t {
         Piece::String { start, end } => {
-            let span = block::span_of(p, stream::STRING);
-            laying::put_text(pass, total, directory, bytes, span, name, start, end)
+            let span = block::span_of(p, Stream::String);
+            laying::put_text(pass, total, directory, bytes, span, &name[start..end])
         }
         Piece::Char(b) => {
-            let span = block::span_of(p, stream::CHAR);
+            let span = block::span_of(p, Stream::Char);
             laying::put_byte(pass, total, directory, bytes, span, b)
         }
         Piece::Digits(n) => {
-            let span = block::span_of(p, stream::DIGITS);
+            let span = block::span_of(p, Stream::Digits);
             laying::put_four(pass, total, directory, bytes, span, n)
         }
         Piece::Digits0(x) => {
-            let numbers = block::span_of(p, stream::DIGITS0);
+            let numbers = block::span_of(p, Stream::Digits0);
             let next = laying::put_four(pass, total, directory, bytes, numbers, x.number);
-            let widths = block::span_of(p, stream::DZLEN);
+            let widths = block::span_of(p, Stream::Dzlen);
             laying::put_byte(pass, next, directory, bytes, widths, x.width as u8)
         }
     }
@@ -64,11 +64,11 @@ pub fn put_value(
     match c {
         Choice::Itself(t) => put_piece(pass, total, directory, bytes, name, p, t),
         Choice::Delta(d) => {
-            let span = block::span_of(p, stream::DDELTA);
+            let span = block::span_of(p, Stream::Ddelta);
             laying::put_byte(pass, total, directory, bytes, span, d)
         }
         Choice::Delta0(d) => {
-            let span = block::span_of(p, stream::DDELTA0);
+            let span = block::span_of(p, Stream::Ddelta0);
             laying::put_byte(pass, total, directory, bytes, span, d)
         }
         Choice::Match => total,

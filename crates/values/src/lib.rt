@@ -7,119 +7,82 @@ ghost use Rattle.sources.specs.Source.{source};
 ghost use Rattle.numbering.specs.Types.{Rules};
 ghost use Rattle.values.specs.Values.{string_step, char_step, digits_step, with_width, padded_of, padded_in, padded_step, digits0_step};
 
-use block::stream;
-use spans::{Cursor, NextByte, NextFour, NextText, Position};
+use block::Stream;
+use refusals::Reason;
+use spans::{Bytes, Cursor, Position};
 use tokens::{Padded, Text, Token};
 
-// What a step gives: it reads and judges, and writes nothing.
-#[derive(Clone, Copy)]
-pub enum Step {
-    // A resolved token, beside the cursor past the bytes of its value (of its type, where MATCH has no value).
-    Got(Token, Cursor),
-    End,
-    Refused(u32),
-}
+// What a step gives: a resolved token, beside the cursor past the bytes of its value (of its type, where MATCH has no value);
+// nothing at END; or why it is refused. It reads and judges, and writes nothing.
+pub type Step = Result<Option<(Token, Cursor)>, Reason>;
 
-// A number and its width, beside the cursor past the number.
-#[derive(Clone, Copy)]
-pub enum NextPadded {
-    Value(Padded, Cursor),
-    Short,
-}
-
-pub fn string_step(found: NextText) -> Step
+pub fn string_step(found: Option<Bytes>) -> Step
     ensures { result ≡ string_step found }
 {
-    match found {
-        NextText::Bytes { start, end, next } => Step::Got(
-            Token::String(Text {
-                kept: false,
-                start: start.0,
-                end: end.0,
-            }),
-            next,
-        ),
-        NextText::Unended => Step::Refused(2),
-    }
+    let text = found.ok_or(Reason::Short)?;
+    let token = Token::String(Text {
+        kept: false,
+        start: text.start.0,
+        end: text.end.0,
+    });
+    Ok(Some((token, text.next)))
 }
 
-pub fn char_step(found: NextByte) -> Step
+pub fn char_step(found: Option<(u8, Cursor)>) -> Step
     ensures { result ≡ char_step found }
 {
-    match found {
-        NextByte::Value(b, c) => Step::Got(Token::Char(b), c),
-        NextByte::Short => Step::Refused(2),
-    }
+    let (b, c) = found.ok_or(Reason::Short)?;
+    Ok(Some((Token::Char(b), c)))
 }
 
-pub fn digits_step(found: NextFour) -> Step
+pub fn digits_step(found: Option<(u32, Cursor)>) -> Step
     ensures { result ≡ digits_step found }
 {
-    match found {
-        NextFour::Value(n, c) => Step::Got(Token::Digits(n), c),
-        NextFour::Short => Step::Refused(2),
-    }
+    let (n, c) = found.ok_or(Reason::Short)?;
+    Ok(Some((Token::Digits(n), c)))
 }
 
 // A number that must fit its width.
 pub fn padded_step(number: u32, width: u32, c: Cursor) -> Step
     ensures { result ≡ padded_step number width c }
 {
-    if digits::fits_width(number, width) {
-        Step::Got(
-            Token::Digits0(Padded {
-                number: number,
-                width: width,
-            }),
-            c,
-        )
-    } else {
-        Step::Refused(6)
+    if !digits::fits_width(number, width) {
+        return Err(Reason::BadNumber);
     }
+    Ok(Some((Token::Digits0(Padded { number, width }), c)))
 }
 
-fn with_width(number: u32, c: Cursor, width: NextByte) -> NextPadded
+fn with_width(number: u32, c: Cursor, width: Option<(u8, Cursor)>) -> Option<(Padded, Cursor)>
     ensures { result ≡ with_width number c width }
 {
-    match width {
-        NextByte::Value(w, _) => NextPadded::Value(
-            Padded {
-                number: number,
-                width: w as u32,
-            },
-            c,
-        ),
-        NextByte::Short => NextPadded::Short,
-    }
+    let (w, _) = width?;
+    let width = w as u32;
+    Some((Padded { number, width }, c))
 }
 
-fn padded_of(number: NextFour, width: NextByte) -> NextPadded
+fn padded_of(number: Option<(u32, Cursor)>, width: Option<(u8, Cursor)>) -> Option<(Padded, Cursor)>
     ensures { result ≡ padded_of number width }
 {
-    match number {
-        NextFour::Value(n, c) => with_width(n, c, width),
-        NextFour::Short => NextPadded::Short,
-    }
+    let (number, c) = number?;
+    with_width(number, c, width)
 }
 
 // Four bytes, and a width from DZLEN.
-fn padded_in(bytes: &[u8], dir: &[u32], cursors: &[u32], p: Position) -> NextPadded
+fn padded_in(bytes: &[u8], dir: &[u32], cursors: &[u32], p: Position) -> Option<(Padded, Cursor)>
     requires fact { Open bytes.now dir.now cursors.now }
     requires p_bound { p.0 ≤ 128 }
     ensures { (rules : Rules) → result ≡ padded_in (source rules bytes.now dir.now cursors.now) p.0 }
 {
-    let number = sources::four_in(bytes, dir, cursors, p, stream::DIGITS0);
-    let width = sources::byte_in(bytes, dir, cursors, p, stream::DZLEN);
+    let number = sources::four_in(bytes, dir, cursors, p, Stream::Digits0);
+    let width = sources::byte_in(bytes, dir, cursors, p, Stream::Dzlen);
     padded_of(number, width)
 }
 
-fn digits0_step(found: NextPadded) -> Step
+fn digits0_step(found: Option<(Padded, Cursor)>) -> Step
     ensures { result ≡ digits0_step found }
 {
-    match found {
-        NextPadded::Value(x, c) => padded_step(x.number, x.width, c),
-        NextPadded::Short => Step::Refused(2),
-    }
+    let (x, c) = found.ok_or(Reason::Short)?;
+    padded_step(x.number, x.width, c)
 }
 
 pub fn digits0_at(bytes: &[u8], dir: &[u32], cursors: &[u32], p: Position) -> Step

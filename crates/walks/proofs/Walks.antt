@@ -1,5 +1,12 @@
 -- The walk over a name's positions: what holds at each turn, whether the name is judged or kept, and what each way out of it answers.
 use Prim.Native.Nat.{ℕ, suc, ◌+◌, ◌-◌, ◌^◌, ◌≤◌, ◌<◌}
+use Rattle.values.specs.Values.{Step}
+use Rattle.names.specs.Names.{Judged, Named, named, type_at, printable, name_of}
+use Rattle.running.specs.Running.{Ran, Reaches, on_at, run_of, run_put}
+use Rattle.taking.specs.Taking.{Turn, place_of, Placed, taken, turn_of}
+use Rattle.std.specs.Prelude.{Some, None, Ok, Err}
+use Rattle.refusals.specs.declared.Reason.{Reason}
+use Rattle.refusals.specs.declared.Reason.TheVariants as reason
 use mathlib.Core.Path.{◌≡◌, refl, sym, ap, ◌∙◌, subst}
 use mathlib.Core.Bool.{Bool, true, false}
 use mathlib.Core.List.{List, [], ◌∷◌}
@@ -18,26 +25,15 @@ use Rattle.tokens.specs.declared.Token.{Token}
 use Rattle.numbering.specs.Types.{Rules}
 use Rattle.tokens.specs.Tokens.{bytes_of, length_of}
 use Rattle.tokens.proofs.Laws.{length_bytes}
-use Rattle.values.specs.declared.Step.{Step}
-use Rattle.values.specs.declared.Step.TheVariants as step
 use Rattle.sources.specs.Source.{Source, source, Earlier, earlier}
 use Rattle.steps.specs.Steps.{step_at}
 use Rattle.repeats.specs.Sound.{Rows}
 use Rattle.steps.proofs.Laws.{Known, given}
-use Rattle.names.specs.declared.Judged.{Judged}
-use Rattle.names.specs.declared.Judged.TheVariants as judged
-use Rattle.running.specs.declared.Ran.{Ran}
-use Rattle.running.specs.declared.Ran.TheVariants as ran
 use Rattle.taking.specs.declared.Place.{Place}
-use Rattle.taking.specs.declared.Turn.{Turn}
-use Rattle.taking.specs.declared.Turn.TheVariants as turn
-use Rattle.names.specs.Names.{Named, named, type_at, printable, name_of}
 use Rattle.moving.specs.Moves.{past}
 use Rattle.names.specs.Judge.{summary, draft_of}
 use Rattle.names.specs.Keeps.{Memory, memory, put_token, put_name, Roomy}
 use Rattle.repeating.specs.Repeats.{Repeats}
-use Rattle.running.specs.Running.{Reaches, on_at, run_of, run_put}
-use Rattle.taking.specs.Taking.{place_of, Placed, taken, turn_of}
 use Rattle.turns.specs.Turns.{turn_put, RoomAt}
 use Rattle.ends.specs.Ends.{ended_of}
 use Rattle.names.proofs.Growing.{printable_short}
@@ -194,7 +190,7 @@ module _ (x : Walk) (a : Asked x) where
     tables = w.opened.table ∙ sym a.opened.table
 
     -- past the last position
-    pub walks_over : 128 < p → Done x (judged.Refused 7) m
+    pub walks_over : 128 < p → Done x (Err reason.NotEnd) m
     walks_over h =
         by_test x.keeping
         (λ k. absurd (omega (arith, (w.going k).high)))
@@ -247,9 +243,9 @@ module _ (x : Walk) (a : Asked x) where
             (sym (run_puts false f m' e ∙ run_leaves _ _ _ _ _ _ _))
             (judged_walks f q l (omega (arith, ran_on_law.0, w.low)) (omega (arith, ran_on_law.1.0)) ran_on_law.1.1.0 ran_on_law.1.1.1))
 
-      pub walks_long : (r : Ran) → r ≡ run_of (src x m) (back x m) x.end p len → r ≡ ran.Long → (m' : Memory)
-          → m' ≡ run_put x.keeping (back x m) x.used x.row p len r m → Done x (judged.Refused 8) m'
-      walks_long r is h m' e =
+      pub walks_long : (r : Ran) → r ≡ run_of (src x m) (back x m) x.end p len → (n : Reason) → r ≡ Err n → (m' : Memory)
+          → m' ≡ run_put x.keeping (back x m) x.used x.row p len r m → Done x (Err n) m'
+      walks_long r is n h m' e =
           by_test x.keeping
           (λ k. absurd (never_long _ _ _ _ _ _ _ _ _ (name x) (a.room k) a.bytes_below a.dir_below _ _ _ _ _ (w.going k) x.end w.reaches (sym is ∙ h)))
           (λ f.
@@ -264,9 +260,9 @@ module _ (x : Walk) (a : Asked x) where
       here = place_of p len x.used x.row
 
       token_fits : (k : x.keeping ≡ true) (st : Step) → step_at (src x m) (back x m) p ≡ st → RoomAt st here m.text m.rows
-      token_fits k (step.Got t c) q = token_room _ _ _ _ _ _ _ _ _ (name x) (a.room k) a.bytes_below a.dir_below _ _ _ _ _ (w.going k) t c q
-      token_fits k step.End q = tt
-      token_fits k (step.Refused r) q = tt
+      token_fits k (Ok (Some (t, c))) q = token_room _ _ _ _ _ _ _ _ _ (name x) (a.room k) a.bytes_below a.dir_below _ _ _ _ _ (w.going k) t c q
+      token_fits k (Ok None) q = tt
+      token_fits k (Err r) q = tt
 
       pub turn_asks : (at : Place) → at ≡ here → TurnAsks x m at
       turn_asks at e =
@@ -284,17 +280,17 @@ module _ (x : Walk) (a : Asked x) where
       abbrev put : Step → Memory
       put st = turn_put x.keeping x.bytes st (type_at (src x m) p) here m
 
-      module _ (t : Token) (c : Cursor) (s : step_at (src x m) (back x m) p ≡ step.Got t c) where
-        kept_put : (k : x.keeping ≡ true) (m' : Memory) → m' ≡ put (step.Got t c)
+      module _ (t : Token) (c : Cursor) (s : step_at (src x m) (back x m) p ≡ Ok (Some (t, c))) where
+        kept_put : (k : x.keeping ≡ true) (m' : Memory) → m' ≡ put (Ok (Some (t, c)))
             → m' ≡ put_token x.bytes m t (type_at (src x m) p) p c.0 (x.used + len) (x.row + (p - 1))
         unfolding turn_put
         kept_put k m' e = e ∙ pick_true _ _ k
 
-        judged_put : (f : x.keeping ≡ false) (m' : Memory) → m' ≡ put (step.Got t c) → m' ≡ m
+        judged_put : (f : x.keeping ≡ false) (m' : Memory) → m' ≡ put (Ok (Some (t, c))) → m' ≡ m
         unfolding turn_put
         judged_put f m' e = e ∙ pick_false _ _ f
 
-        kept_on : (k : x.keeping ≡ true) (v : ℕ) → v ≡ length_of t → (m' : Memory) → m' ≡ put (step.Got t c)
+        kept_on : (k : x.keeping ≡ true) (v : ℕ) → v ≡ length_of t → (m' : Memory) → m' ≡ put (Ok (Some (t, c)))
             → Below 256 m'.text → RowsBelow (2 ^ 32) m'.rows → Walking x m' (p + 1) (len + v)
         kept_on k v l m' e bt br =
             let z : x.used + len + v ≡ x.used + (len + v) = omega arith in
@@ -302,7 +298,7 @@ module _ (x : Walk) (a : Asked x) where
             (subst (λ (at : ℕ). Going x.rules x.bytes x.dir x.start.text x.start.rows x.first x.count x.used x.row (draft_of (name x)) m'.cur m'.text m'.rows (p + 1) at) z
             (turned _ _ _ _ _ _ _ _ _ (name x) (a.room k) a.bytes_below a.dir_below _ _ _ _ _ (w.going k) t c s _ m'.text m'.rows m'.cur refl (kept_put k m' e) v l bt br))
 
-        judged_on : (f : x.keeping ≡ false) (v : ℕ) → v ≡ length_of t → printable (bytes_of x.bytes m.text t) len ≡ true → (m' : Memory) → m' ≡ put (step.Got t c)
+        judged_on : (f : x.keeping ≡ false) (v : ℕ) → v ≡ length_of t → printable (bytes_of x.bytes m.text t) len ≡ true → (m' : Memory) → m' ≡ put (Ok (Some (t, c)))
             → Walking x m' (p + 1) (len + v)
         judged_on f v l y m' e =
             let n : v ≡ length (bytes_of x.bytes m.text t) = l ∙ sym (length_bytes x.bytes m.text t (given (src x m) (back x m) x.used p knows s).inside) in
@@ -319,88 +315,88 @@ module _ (x : Walk) (a : Asked x) where
         unfolding taken
         taken_kept k q = never (sym q ∙ pick_true true _ k)
 
-        got_on : (v : ℕ) → turn.On v ≡ turn_of x.keeping x.bytes m.text len (step.Got t c) → (m' : Memory) → m' ≡ put (step.Got t c)
+        got_on : (v : ℕ) → Ok (Some v) ≡ turn_of x.keeping x.bytes m.text len (Ok (Some (t, c))) → (m' : Memory) → m' ≡ put (Ok (Some (t, c)))
             → Below 256 m'.text → RowsBelow (2 ^ 32) m'.rows → Walking x m' (p + 1) (len + v)
         unfolding turn_of
         got_on v q m' e bt br =
             by_test (taken x.keeping x.bytes m.text t len)
             (λ y.
-            let g : turn.On v ≡ turn.On (length_of t) = q ∙ pick_true _ _ y in
+            let g : ◌≡◌ {A = Turn} (Ok (Some v)) (Ok (Some (length_of t))) = q ∙ pick_true _ _ y in
             let l : v ≡ length_of t = cc in
             by_test x.keeping
             (λ k. kept_on k v l m' e bt br)
             (λ f. judged_on f v l (taken_prints f true y) m' e))
-            (λ y. let g : turn.On v ≡ turn.Refused 8 = q ∙ pick_false _ _ y in let z : ◌≡◌ {A = ℕ} 0 1 = cc in absurd (omega arith))
+            (λ y. let g : ◌≡◌ {A = Turn} (Ok (Some v)) (Err reason.BadName) = q ∙ pick_false _ _ y in cc)
 
-        got_refused : (r : ℕ) → turn.Refused r ≡ turn_of x.keeping x.bytes m.text len (step.Got t c) → (m' : Memory) → m' ≡ put (step.Got t c) → Done x (judged.Refused r) m'
+        got_refused : (r : Reason) → Err r ≡ turn_of x.keeping x.bytes m.text len (Ok (Some (t, c))) → (m' : Memory) → m' ≡ put (Ok (Some (t, c))) → Done x (Err r) m'
         unfolding turn_of
         got_refused r q m' e =
             by_test (taken x.keeping x.bytes m.text t len)
-            (λ y. let g : turn.Refused r ≡ turn.On (length_of t) = q ∙ pick_true _ _ y in let z : ◌≡◌ {A = ℕ} 0 1 = cc in absurd (omega arith))
+            (λ y. let g : ◌≡◌ {A = Turn} (Err r) (Ok (Some (length_of t))) = q ∙ pick_true _ _ y in cc)
             (λ y.
-            let g : turn.Refused r ≡ turn.Refused 8 = q ∙ pick_false _ _ y in
-            let n : r ≡ 8 = cc in
+            let g : ◌≡◌ {A = Turn} (Err r) (Err reason.BadName) = q ∙ pick_false _ _ y in
+            let n : r ≡ reason.BadName = cc in
             by_test x.keeping
             (λ k. absurd (taken_kept k y))
             (λ f.
             still_done f
-            (ap (λ (i : ℕ). judged.Refused i) n ∙ spoils (src x m) (back x m) (129 - p) (129 - (p + 1)) p len (p - 1) _ more w.judges s (taken_prints f false y))
+            (rw n (spoils (src x m) (back x m) (129 - p) (129 - (p + 1)) p len (p - 1) _ more w.judges s (taken_prints f false y)))
             (judged_put f m' e)))
 
-      on_from : (st : Step) → step_at (src x m) (back x m) p ≡ st → (v : ℕ) → turn.On v ≡ turn_of x.keeping x.bytes m.text len st → (m' : Memory) → m' ≡ put st
+      on_from : (st : Step) → step_at (src x m) (back x m) p ≡ st → (v : ℕ) → Ok (Some v) ≡ turn_of x.keeping x.bytes m.text len st → (m' : Memory) → m' ≡ put st
           → Below 256 m'.text → RowsBelow (2 ^ 32) m'.rows → Walking x m' (p + 1) (len + v)
       unfolding turn_of
-      on_from (step.Got t c) s v q m' e bt br = got_on t c s v q m' e bt br
-      on_from step.End s v q m' e bt br = let z : ◌≡◌ {A = ℕ} 0 1 = cc in absurd (omega arith)
-      on_from (step.Refused r) s v q m' e bt br = let z : ◌≡◌ {A = ℕ} 0 1 = cc in absurd (omega arith)
+      on_from (Ok (Some (t, c))) s v q m' e bt br = got_on t c s v q m' e bt br
+      on_from (Ok None) s v q m' e bt br = cc
+      on_from (Err r) s v q m' e bt br = cc
 
       -- a token more
-      pub walks_on : (at : Place) → at ≡ here → (r : Turn) (v : ℕ) → r ≡ turn.On v → (m' : Memory) → TurnGives x m at r m'
+      pub walks_on : (at : Place) → at ≡ here → (r : Turn) (v : ℕ) → r ≡ Ok (Some v) → (m' : Memory) → TurnGives x m at r m'
           → Below 256 m'.text → RowsBelow (2 ^ 32) m'.rows → Walking x m' (p + 1) (len + v)
       walks_on at e r v q m' g =
           let f = subst (λ (z : Place). TurnGives x m z r m') e g in
           on_from (step_at (src x m) (back x m) p) refl v (sym q ∙ f.0) m' f.1
 
-      refused_from : (st : Step) → step_at (src x m) (back x m) p ≡ st → (r : ℕ) → turn.Refused r ≡ turn_of x.keeping x.bytes m.text len st → (m' : Memory) → m' ≡ put st
-          → Done x (judged.Refused r) m'
+      refused_from : (st : Step) → step_at (src x m) (back x m) p ≡ st → (r : Reason) → Err r ≡ turn_of x.keeping x.bytes m.text len st → (m' : Memory) → m' ≡ put st
+          → Done x (Err r) m'
       unfolding turn_of turn_put
-      refused_from (step.Got t c) s r q m' e = got_refused t c s r q m' e
-      refused_from step.End s r q m' e = let z : ◌≡◌ {A = ℕ} 0 1 = cc in absurd (omega arith)
-      refused_from (step.Refused i) s r q m' e =
+      refused_from (Ok (Some (t, c))) s r q m' e = got_refused t c s r q m' e
+      refused_from (Ok None) s r q m' e = cc
+      refused_from (Err i) s r q m' e =
           let n : r ≡ i = cc in
           by_test x.keeping
           (λ k. absurd (never_refuses _ _ _ _ _ _ _ _ _ (name x) (a.room k) a.bytes_below a.dir_below _ _ _ _ _ (w.going k) s))
-          (λ f. still_done f (ap (λ (j : ℕ). judged.Refused j) n ∙ refuses (src x m) (back x m) (129 - p) (129 - (p + 1)) p len (p - 1) _ more w.judges s) e)
+          (λ f. still_done f (rw n (refuses (src x m) (back x m) (129 - p) (129 - (p + 1)) p len (p - 1) _ more w.judges s)) e)
 
       -- a refusal
-      pub walks_refused : (at : Place) → at ≡ here → (r : Turn) (n : ℕ) → r ≡ turn.Refused n → (m' : Memory) → TurnGives x m at r m' → Done x (judged.Refused n) m'
+      pub walks_refused : (at : Place) → at ≡ here → (r : Turn) (n : Reason) → r ≡ Err n → (m' : Memory) → TurnGives x m at r m' → Done x (Err n) m'
       walks_refused at e r n q m' g =
           let f = subst (λ (z : Place). TurnGives x m z r m') e g in
           refused_from (step_at (src x m) (back x m) p) refl n (sym q ∙ f.0) m' f.1
 
-      end_from_law : (st : Step) → step_at (src x m) (back x m) p ≡ st → turn.End ≡ turn_of x.keeping x.bytes m.text len st → (m' : Memory) → m' ≡ put st
-          → Walking x m' p len × (step_at (src x m') (back x m') p ≡ step.End)
+      end_from_law : (st : Step) → step_at (src x m) (back x m) p ≡ st → Ok None ≡ turn_of x.keeping x.bytes m.text len st → (m' : Memory) → m' ≡ put st
+          → Walking x m' p len × (step_at (src x m') (back x m') p ≡ Ok None)
       unfolding turn_of turn_put
-      end_from_law (step.Got t c) s q m' e =
+      end_from_law (Ok (Some (t, c))) s q m' e =
           by_test (taken x.keeping x.bytes m.text t len)
-          (λ y. let g : turn.End ≡ turn.On (length_of t) = q ∙ pick_true _ _ y in let z : ◌≡◌ {A = ℕ} 0 1 = cc in absurd (omega arith))
-          (λ y. let g : turn.End ≡ turn.Refused 8 = q ∙ pick_false _ _ y in let z : ◌≡◌ {A = ℕ} 0 1 = cc in absurd (omega arith))
-      end_from_law step.End s q m' e = (
+          (λ y. let g : ◌≡◌ {A = Turn} (Ok None) (Ok (Some (length_of t))) = q ∙ pick_true _ _ y in cc)
+          (λ y. let g : ◌≡◌ {A = Turn} (Ok None) (Err reason.BadName) = q ∙ pick_false _ _ y in cc)
+      end_from_law (Ok None) s q m' e = (
         subst (λ (z : Memory). Walking x z p len) (sym e) w,
-        subst (λ (z : Memory). step_at (src x z) (back x z) p ≡ step.End) (sym e) s,
+        subst (λ (z : Memory). step_at (src x z) (back x z) p ≡ Ok None) (sym e) s,
       )
-      end_from_law (step.Refused r) s q m' e = let z : ◌≡◌ {A = ℕ} 0 1 = cc in absurd (omega arith)
+      end_from_law (Err r) s q m' e = cc
 
       -- an END, which leaves the memory
-      pub walks_end : (at : Place) → at ≡ here → (r : Turn) → r ≡ turn.End → (m' : Memory) → TurnGives x m at r m'
-          → Walking x m' p len × (step_at (src x m') (back x m') p ≡ step.End)
+      pub walks_end : (at : Place) → at ≡ here → (r : Turn) → r ≡ Ok None → (m' : Memory) → TurnGives x m at r m'
+          → Walking x m' p len × (step_at (src x m') (back x m') p ≡ Ok None)
       walks_end at e r q m' g =
           let f = subst (λ (z : Place). TurnGives x m z r m') e g in
           end_from_law (step_at (src x m) (back x m) p) refl (sym q ∙ f.0) m' f.1
 
       -- END
 
-      module _ (s : step_at (src x m) (back x m) p ≡ step.End) where
+      module _ (s : step_at (src x m) (back x m) p ≡ Ok None) where
         pub end_asks : (((1 ≤ p) × (p ≤ 128)) × ((len ≤ 254) × ((x.used < 2 ^ 31) × (length m.cur ≡ 1290))))
             × (x.keeping ≡ true → (x.used + len + 1 ≤ length m.text) × (cursor_of m.cur (span_of p 0) + 1 < 2 ^ 32))
         end_asks = (
@@ -410,17 +406,17 @@ module _ (x : Walk) (a : Asked x) where
               (e.1, e.0.1.1),
         )
 
-        some : (n : Named) → n ≡ named (draft_of n) → judged.Refused 8 ≡ summary n → ⊥
+        some : (n : Named) → n ≡ named (draft_of n) → Err reason.BadName ≡ summary n → ⊥
         unfolding summary
-        some n e q = let g = q ∙ ap summary e in let z : ◌≡◌ {A = ℕ} 0 1 = cc in omega arith
+        some n e q = let g = q ∙ ap summary e in cc
 
-        kept_answer : (k : x.keeping ≡ true) → judged.Name (p - 1) len ≡ summary (name x)
+        kept_answer : (k : x.keeping ≡ true) → Ok (record { rows = p - 1; length = len }) ≡ summary (name x)
         kept_answer k =
             by_test (eqb len 0)
             (λ y. absurd (some (name x) (a.room k).whole (empty (src x m) (back x m) (129 - p) (129 - (p + 1)) p len (p - 1) _ more w.judges s y)))
             (λ y. ends (src x m) (back x m) (129 - p) (129 - (p + 1)) p len (p - 1) _ more w.judges s y)
 
-        judged_answer_law : pick (eqb len 0) (judged.Refused 8) (judged.Name (p - 1) len) ≡ summary (name x)
+        judged_answer_law : pick (eqb len 0) (Err reason.BadName) (Ok (record { rows = p - 1; length = len })) ≡ summary (name x)
         judged_answer_law =
             by_test (eqb len 0)
             (λ y. pick_true _ _ y ∙ empty (src x m) (back x m) (129 - p) (129 - (p + 1)) p len (p - 1) _ more w.judges s y)

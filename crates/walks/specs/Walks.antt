@@ -1,5 +1,5 @@
 -- A walk over what it is lent: the name that it comes to, and what it puts down.
-use Rattle.std.specs.Prelude.{ℕ, Bool, List}
+use Rattle.std.specs.Prelude.{ℕ, Bool}
 use Rattle.base.specs.Choice.{pick}
 use Rattle.base.specs.Lent.{Buffer}
 use Rattle.block.specs.declared.Setting.{Setting}

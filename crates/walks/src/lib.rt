@@ -14,10 +14,9 @@ ghost use Rattle.walks.specs.Walks.{name_lent, walk_put};
 ghost use Rattle.tables.specs.Tables.{in_rows};
 
 use block::{Block, Setting};
-use names::Judged;
-use running::Ran;
+use names::Size;
+use refusals::Reason;
 use spans::Position;
-use taking::Turn;
 
 // Where it is `known` that the earlier name's rows are spelt, a run of MATCHes is repeated in one go.
 // Kept is a name that was judged: its text and byte 10, its rows, and the cursors past it. Its steps are taken in memory that already holds it as far as it is kept, behind all that they look at.
@@ -34,7 +33,7 @@ pub fn walk(
     count: u32,
     used: u32,
     row: u32,
-) -> Judged
+) -> Result<Size, Reason>
     requires fact { Open bytes.now dir.now cursors.old }
     requires rows { Rows used (earlier text.old (in_rows rows.old) first count) }
     requires used_bound { (used < 2 ^ 31) × ((first + count ≤ row) × (row < 2 ^ 31)) }
@@ -44,27 +43,20 @@ pub fn walk(
     ensures cursors_value { memory_left text.new rows.new cursors.new ≡ walk_put keep used row (name_lent set bytes.now dir.now cursors.old text.old rows.old first count used) (memory_lent text.old rows.old cursors.old) }
 {
     let end = runs::last(known, count);
+    // Not a `for`: a turn goes past a whole run of MATCHes, so that the position may move on by more than one.
     let mut p = Position(1);
     let mut len: u32 = 0;
     while p.0 <= Block::TOKENS {
-        let Ran::On { p: q, len: l } = running::run(
+        let (q, l) = running::run(
             set, keep, end, bytes, dir, cursors, text, rows, first, count, used, row, p, len,
-        ) else {
-            return Judged::Refused(8);
-        };
+        )?;
         let at = turns::place(q, l, used, row);
-        match turns::turn(set, keep, bytes, dir, cursors, text, rows, first, count, at) {
-            Turn::On(w) => {
-                len = l + w;
-                p = Position(q.0 + 1);
-            }
-            Turn::End => {
-                return ends::ended(keep, cursors, text, q, used, l);
-            }
-            Turn::Refused(r) => {
-                return Judged::Refused(r);
-            }
-        }
+        let Some(w) = turns::turn(set, keep, bytes, dir, cursors, text, rows, first, count, at)?
+        else {
+            return ends::ended(keep, cursors, text, q, used, l);
+        };
+        len = l + w;
+        p = Position(q.0 + 1);
     }
-    Judged::Refused(7)
+    Err(Reason::NotEnd)
 }

@@ -1,5 +1,7 @@
 -- What is left of a block's spans, and what is taken from the front of one.
 use Rattle.std.specs.Prelude.{ℕ, ◌+◌, ◌*◌, List, [], ◌∷◌, eqb}
+use Rattle.refusals.specs.declared.Reason.{Reason}
+use Rattle.refusals.specs.declared.Reason.TheVariants as reason
 use Rattle.base.specs.Choice.{pick}
 
 -- the bytes left to each span
@@ -40,7 +42,7 @@ text (b ∷ l) = pick (eqb b 0) (front [] l) (longer b (text l))
 -- what reading something gives: the thing and what is then left of the spans, or a refusal
 pub data Said (A : Type 0) : Type 0 where
   said : A → Spans → Said A
-  refused : ℕ → Said A
+  refused : Reason → Said A
 
 -- and then, with that thing and those spans
 unfoldable pub then : {A B : Type 0} → Said A → (A → Spans → Said B) → Said B
@@ -50,7 +52,7 @@ then (refused r) next = refused r
 -- 2: a span ends before what is wanted
 unfoldable pub taken : {A : Type 0} → Spans → ℕ → Front A → Said A
 taken spans i (front a l) = said a (leave spans i l)
-taken spans i short = refused 2
+taken spans i short = refused reason.Short
 
 -- a byte, four bytes or a text from span i
 abbrev pub from : {A : Type 0} → (List ℕ → Front A) → Spans → ℕ → Said A

@@ -3,6 +3,8 @@
 -- A definition stands before its use, so the paper's order is from below: `telling`, `next` and `headed` (rule 1), `back` (rule 2), `copy` (rule 3),
 -- `made` and `tokens_from` (rule 4), `resolved` (the token table). 2 is given by `from`, wherever a span ends before what is wanted.
 use Rattle.std.specs.Prelude.{ℕ, zero, suc, ◌+◌, ◌^◌, Bool, true, false, List, [], ◌∷◌, length, get_or, ltb, leb, eqb}
+use Rattle.refusals.specs.declared.Reason.{Reason}
+use Rattle.refusals.specs.declared.Reason.TheVariants as reason
 use Rattle.base.specs.Choice.{pick, both}
 use Rattle.base.specs.Every.{each}
 use Rattle.base.specs.Memory.{part}
@@ -24,33 +26,33 @@ pub data Found : Type 0 where
 
 -- a number that must fit its width, else 6
 unfoldable pub fitting : ℕ → ℕ → Spans → Said Found
-fitting n w left = pick (fits_width n w) (said (value (digits0 n w)) left) (refused 6)
+fitting n w left = pick (fits_width n w) (said (value (digits0 n w)) left) (refused reason.BadNumber)
 
 -- 11 DDELTA: the sum, below 2^32, else 6
 unfoldable pub summed : ℕ → ℕ → Spans → Said Found
-summed n d left = pick (ltb (n + d) (2 ^ 32)) (said (value (digits (n + d))) left) (refused 6)
+summed n d left = pick (ltb (n + d) (2 ^ 32)) (said (value (digits (n + d))) left) (refused reason.BadNumber)
 
 -- 12 DDELTA0: width kept, the sum must fit it
 unfoldable pub summed0 : ℕ → ℕ → ℕ → Spans → Said Found
-summed0 n w d left = pick (ltb (n + d) (2 ^ 32)) (fitting (n + d) w left) (refused 6)
+summed0 n w d left = pick (ltb (n + d) (2 ^ 32)) (fitting (n + d) w left) (refused reason.BadNumber)
 
 -- what leans on the earlier name's token at this position, the first of those from here on: 5 with none, or with one that doesn't fit
 unfoldable pub on_digits : List Value → (ℕ → Said Found) → Said Found
-on_digits [] next = refused 5
-on_digits (string t ∷ e) next = refused 5
-on_digits (char b ∷ e) next = refused 5
+on_digits [] next = refused reason.NoRow
+on_digits (string t ∷ e) next = refused reason.NoRow
+on_digits (char b ∷ e) next = refused reason.NoRow
 on_digits (digits n ∷ e) next = next n
-on_digits (digits0 n w ∷ e) next = refused 5
+on_digits (digits0 n w ∷ e) next = refused reason.NoRow
 
 unfoldable pub on_digits0 : List Value → (ℕ → ℕ → Said Found) → Said Found
-on_digits0 [] next = refused 5
-on_digits0 (string t ∷ e) next = refused 5
-on_digits0 (char b ∷ e) next = refused 5
-on_digits0 (digits n ∷ e) next = refused 5
+on_digits0 [] next = refused reason.NoRow
+on_digits0 (string t ∷ e) next = refused reason.NoRow
+on_digits0 (char b ∷ e) next = refused reason.NoRow
+on_digits0 (digits n ∷ e) next = refused reason.NoRow
 on_digits0 (digits0 n w ∷ e) next = next n w
 
 unfoldable pub on_any : List Value → (Value → Said Found) → Said Found
-on_any [] next = refused 5
+on_any [] next = refused reason.NoRow
 on_any (v ∷ e) next = next v
 
 -- the token table; e is the earlier name's tokens from position p on
@@ -72,11 +74,11 @@ resolved p e type.Match left = on_any e (λ v. said (value v) left)
 -- 14 END: the name is complete
 resolved p e type.End left = said end left
 -- 3: a type that isn't in the table
-resolved p e type.Other left = refused 3
+resolved p e type.Other left = refused reason.UnknownType
 
 -- 7: at position 128, a type in the table other than END
 unfoldable pub typed : ℕ → List Value → TokenType → Spans → Said Found
-typed p e t left = pick (barred p t) (refused 7) (resolved p e t left)
+typed p e t left = pick (barred p t) (refused reason.NotEnd) (resolved p e t left)
 
 -- a type, and what it stands for
 unfoldable pub found : Rules → ℕ → List Value → Spans → Said Found
@@ -87,8 +89,8 @@ unfoldable pub onward : ℕ → (Value → Spans → Said (List Value)) → Foun
 onward len rest (value v) left =
     pick (both (all_allowed (prints v)) (leb (len + length (prints v)) 254))
     (then (rest v left) (λ vs left. said (v ∷ vs) left))
-    (refused 8)
-onward len rest end left = pick (eqb len 0) (refused 8) (said [] left)
+    (refused reason.BadName)
+onward len rest end left = pick (eqb len 0) (refused reason.BadName) (said [] left)
 
 unfoldable pub behind : List Value → List Value
 behind [] = []
@@ -96,7 +98,7 @@ behind (v ∷ e) = e
 
 -- rule 4: the tokens from position p on, f positions at most, with len bytes before them; position 128 takes END alone, so none is looked for behind it
 unfoldable pub tokens_from : Rules → ℕ → ℕ → List Value → ℕ → Spans → Said (List Value)
-tokens_from rules zero p e len left = refused 7
+tokens_from rules zero p e len left = refused reason.NotEnd
 tokens_from rules (suc f) p e len left =
     then (found rules p e left) (onward len (λ v. tokens_from rules f (p + 1) (behind e) (len + length (prints v))))
 
@@ -107,21 +109,21 @@ back before d = get_or (nobody ∷ before) d nobody
 -- rule 3: DUP, the tokens of the earlier name; 4: a distance outside rule 2, from 1 to the number of names before
 unfoldable pub copy : List Name → ℕ → Spans → Said Name
 copy before d left =
-    pick (both (leb 1 d) (leb d (length before))) (said (record { tokens = (back before d).tokens; distance = d }) left) (refused 4)
+    pick (both (leb 1 d) (leb d (length before))) (said (record { tokens = (back before d).tokens; distance = d }) left) (refused reason.BadDistance)
 
 -- rule 4: DIFF, positions 1 to 128; 4: a distance outside rule 2, from 0 (C-11) to the number of names before
 unfoldable pub made : Rules → List Name → ℕ → Spans → Said Name
 made rules before d left =
     pick (leb d (length before))
     (then (tokens_from rules 128 1 (back before d).tokens 0 left) (λ vs rest. said (record { tokens = vs; distance = d }) rest))
-    (refused 4)
+    (refused reason.BadDistance)
 
 -- rule 1: the type at position 0, DUP or DIFF, and the distance; 3: another type
 unfoldable pub headed : Rules → List Name → ℕ → Spans → Said Name
 headed rules before t left =
     pick (eqb t rules.numbers.dup) (then (from four left (span_of 0 dup_stream)) (copy before))
     (pick (eqb t rules.numbers.diff) (then (from four left (span_of 0 diff_stream)) (made rules before))
-    (refused 3))
+    (refused reason.UnknownType))
 
 -- the next name
 unfoldable pub next : Rules → List Name → Spans → Said Name
@@ -131,7 +133,7 @@ next rules before left = then (from byte left (span_of 0 type_stream)) (headed r
 pub data Ending : Type 0 where
   done : Ending
   unread : Ending
-  stopped : ℕ → Ending
+  stopped : Reason → Ending
 
 -- the names in their order, and the ending; a name that is refused is the one after them
 pub record Telling : Type 0 where

@@ -3,8 +3,7 @@ use Prim.Native.Nat.{ℕ}
 use mathlib.Core.Path.{◌≡◌, ap, ◌∙◌}
 use mathlib.Core.List.{List}
 use Rattle.numbering.specs.Types.{Rules}
-use Rattle.writing.specs.declared.WriteAnswer.{WriteAnswer}
-use Rattle.writing.specs.Writes.{writing, write_of}
+use Rattle.writing.specs.Writes.{WriteAnswer, writing, write_of}
 use Rattle.writecalls.specs.Calls.{written_number, writes, written_totals, writes_of, write_call}
 
 same_writes : {n n' : ℕ} (d b : List ℕ) {t t' : List ℕ} → n ≡ n' → t ≡ t' → writes n d b t ≡ writes n' d b t'

@@ -4,10 +4,9 @@
 
 ghost use Rattle.std.specs.Prelude.{◌≡◌};
 ghost use Rattle.numbering.specs.Types.{rules_of};
-ghost use Rattle.writecalls.specs.Calls.{writes_left, write_call_lent};
+ghost use Rattle.writecalls.specs.Calls.{writes, write_call};
 
 use block::Setting;
-use writing::WriteAnswer;
 
 pub fn write(
     set: Setting,
@@ -16,16 +15,13 @@ pub fn write(
     bytes: &mut [u8],
     totals: &mut [u32; 2],
 ) -> u64
-    ensures { writes_left result directory.new bytes.new totals.new ≡ write_call_lent (rules_of set) input.now directory.old bytes.old totals.old }
+    ensures { writes result directory.new bytes.new totals.new ≡ write_call (rules_of set) input.now directory.old bytes.old totals.old }
 {
     match writing::write(set, input, directory, bytes) {
-        WriteAnswer::Written {
-            names,
-            bytes: total,
-        } => {
-            *totals = [names, total];
-            codes::pack(0, total)
+        Ok(w) => {
+            *totals = [w.names, w.bytes];
+            codes::pack(0, w.bytes)
         }
-        WriteAnswer::Refused(r) => codes::refused(r),
+        Err(r) => codes::refused(r),
     }
 }

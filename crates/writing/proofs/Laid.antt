@@ -1,5 +1,7 @@
 -- From what is found and filled to the answer: what each call of writing leaves is what the definition says.
 use Prim.Native.Nat.{ℕ, ◌≤◌, ◌<◌}
+use Rattle.std.specs.Prelude.{Some, None, Ok, Err}
+use Rattle.refusals.specs.declared.Reason.TheVariants as reason
 use mathlib.Core.Path.{◌≡◌, refl, sym, ◌∙◌, subst}
 use mathlib.Core.Bool.{Bool, true, false}
 use mathlib.Core.List.{List}
@@ -7,20 +9,17 @@ use borrow.Author.Tests.{eq-eqb, ne_eqb, le-leb, lt-leb, leb-true}
 use lib.Dec.{leb}
 use lib.ListN.{length}
 use Rattle.base.proofs.Choice.{took, left, both_of, both_left, both_right}
-use Rattle.block.specs.declared.Refusal.TheVariants.{Plain, At}
+use Rattle.refusals.specs.declared.Refusal.TheVariants.{Plain, At}
 use Rattle.numbering.specs.Types.{Rules}
 use Rattle.laying.specs.Puts.{total_of, directory_of, bytes_of}
-use Rattle.inputs.specs.declared.Judged.{Judged}
-use Rattle.inputs.specs.declared.Judged.TheVariants.{Fine, Bad}
-use Rattle.writing.specs.declared.WriteAnswer.TheVariants.{Written, Refused}
-use Rattle.inputs.specs.Inputs.{names_of, ended, judged_from}
+use Rattle.inputs.specs.Inputs.{Judged, names_of, ended, judged_from}
 use Rattle.writing.specs.Writes.{Writing, writing, countable, laid_of, judged_of, write_of}
 use Rattle.filling.specs.Ready.{Ready}
 use Rattle.filling.proofs.Filled.{puts_in}
 
 module _ (rules : Rules) (input dir bytes : List ℕ) (k : Ready input dir) where
   module _ {f : Bool} {d y : List ℕ} (e : f ≡ leb (total_of (puts_in rules input)) (length bytes)) (same-dir : d ≡ dir) (same_bytes : y ≡ bytes) where
-    pub no_room : f ≡ false → writing (Refused (Plain 9)) d y ≡ laid_of rules (names_of input) dir bytes
+    pub no_room : f ≡ false → writing (Err (Plain reason.NoRoom)) d y ≡ laid_of rules (names_of input) dir bytes
     unfolding laid_of
     no_room h = left _ _ (sym e ∙ h) (rw (same-dir, same_bytes))
 
@@ -31,7 +30,7 @@ module _ (rules : Rules) (input dir bytes : List ℕ) (k : Ready input dir) wher
     still_ready = subst (λ (x : List ℕ). Ready input x) (sym same-dir) k
 
     pub done : {n t : ℕ} {a b : List ℕ} → n ≡ length (names_of input) → f ≡ true → t ≡ total_of (puts_in rules input) → a ≡ directory_of (puts_in rules input) → b ≡ bytes_of (puts_in rules input) y
-        → writing (Written n t) a b ≡ laid_of rules (names_of input) dir bytes
+        → writing (Ok (record { names = n; bytes = t })) a b ≡ laid_of rules (names_of input) dir bytes
     unfolding laid_of
     done p h u q r = took _ _ (sym e ∙ h) (rw (p, u, q, r, same_bytes))
 
@@ -50,11 +49,11 @@ unfolding countable
 too_many input e h = both_right e (lt-leb _ _ h)
 
 module _ (rules : Rules) (input dir bytes : List ℕ) where
-  pub refused_1 : (length dir ≡ 2580 → ⊥) → writing (Refused (Plain 1)) dir bytes ≡ write_of rules input dir bytes
+  pub refused_1 : (length dir ≡ 2580 → ⊥) → writing (Err (Plain reason.Unsound)) dir bytes ≡ write_of rules input dir bytes
   unfolding write_of
   refused_1 f = left _ _ (ne_eqb _ _ f) refl
 
-  pub refused_12 : length dir ≡ 2580 → countable input ≡ false → writing (Refused (Plain 12)) dir bytes ≡ write_of rules input dir bytes
+  pub refused_12 : length dir ≡ 2580 → countable input ≡ false → writing (Err (Plain reason.BadCount)) dir bytes ≡ write_of rules input dir bytes
   unfolding write_of
   refused_12 e f = took _ _ (eq-eqb _ _ e) (left _ _ f refl)
 
@@ -62,10 +61,10 @@ module _ (rules : Rules) (input dir bytes : List ℕ) where
   unfolding write_of
   judged e f g h = took _ _ (eq-eqb _ _ e) (took _ _ f (rw g h))
 
-  pub refused_8 : (n : ℕ) → writing (Refused (At 8 n)) dir bytes ≡ judged_of rules (Bad n) (names_of input) dir bytes
+  pub refused_8 : (n : ℕ) → writing (Err (At reason.BadName n)) dir bytes ≡ judged_of rules (Some n) (names_of input) dir bytes
   unfolding judged_of
   refused_8 n = refl
 
-  pub accepted : {w : Writing} → w ≡ laid_of rules (names_of input) dir bytes → w ≡ judged_of rules Fine (names_of input) dir bytes
+  pub accepted : {w : Writing} → w ≡ laid_of rules (names_of input) dir bytes → w ≡ judged_of rules None (names_of input) dir bytes
   unfolding judged_of
   accepted e = e

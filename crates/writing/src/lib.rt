@@ -9,13 +9,13 @@ ghost use Rattle.inputs.specs.Inputs.{names_of};
 ghost use Rattle.filling.specs.Ready.{Ready};
 ghost use Rattle.writing.specs.Writes.{writing, laid_of, write_of};
 
-use block::{Block, Refusal, Setting};
-use inputs::Judged;
+use block::{Block, Setting};
+use refusals::{Reason, Refusal};
 
 #[derive(Clone, Copy)]
-pub enum WriteAnswer {
-    Written { names: u32, bytes: u32 },
-    Refused(Refusal),
+pub struct Written {
+    pub names: u32,
+    pub bytes: u32,
 }
 
 // Refusal 9, or all of it.
@@ -26,38 +26,43 @@ fn lay(
     table: &[u8; 256],
     input: &[u8],
     names: u32,
-) -> WriteAnswer
+) -> Result<Written, Refusal>
     requires table_value { table.now ≡ class_table }
     requires ready { Ready input.now directory.old }
     requires names_value { names ≡ length (names_of input.now) }
     ensures { writing result directory.new bytes.new ≡ laid_of (rules_of set) (names_of input.now) directory.old bytes.old }
 {
     if !filling::fits(set, directory, bytes, table, input) {
-        return WriteAnswer::Refused(Refusal::Plain(9));
+        return Err(Refusal::Plain(Reason::NoRoom));
     }
     let total = filling::fill(set, directory, bytes, table, input);
-    WriteAnswer::Written {
+    Ok(Written {
         names,
         bytes: total,
-    }
+    })
 }
 
-pub fn write(set: Setting, input: &[u8], directory: &mut [u32], bytes: &mut [u8]) -> WriteAnswer
+pub fn write(
+    set: Setting,
+    input: &[u8],
+    directory: &mut [u32],
+    bytes: &mut [u8],
+) -> Result<Written, Refusal>
     ensures { writing result directory.new bytes.new ≡ write_of (rules_of set) input.now directory.old bytes.old }
 {
     if directory.len() != Block::DIRECTORY {
-        return WriteAnswer::Refused(Refusal::Plain(1));
+        return Err(Refusal::Plain(Reason::Unsound));
     }
     if !inputs::all_ended(input) {
-        return WriteAnswer::Refused(Refusal::Plain(12));
+        return Err(Refusal::Plain(Reason::BadCount));
     }
     let count = inputs::count(input);
     if (Block::NAMES as usize) < count {
-        return WriteAnswer::Refused(Refusal::Plain(12));
+        return Err(Refusal::Plain(Reason::BadCount));
     }
     let table = classes::table();
     match inputs::judge(&table, input) {
-        Judged::Bad(n) => WriteAnswer::Refused(Refusal::At(8, n)),
-        Judged::Fine => lay(set, directory, bytes, &table, input, count as u32),
+        Some(n) => Err(Refusal::At(Reason::BadName, n)),
+        None => lay(set, directory, bytes, &table, input, count as u32),
     }
 }

@@ -1,14 +1,14 @@
 use Rattle.answers.specs.Answers.{verdict_number}
 use Rattle.answers.proofs.judged.Goals as goal
 
-pub returns-in-Confirmed : goal.returns-in-Confirmed
+pub returns-in-Ok-Confirmed : goal.returns-in-Ok-Confirmed
 unfolding verdict_number
-returns-in-Confirmed c = rw (c.pack.ensures, c.in-Confirmed.is)
+returns-in-Ok-Confirmed c = rw (c.pack.ensures, c.in-Ok-Confirmed.is, rw c.in-Ok-Confirmed.is at c.in-Ok-Confirmed.field-0-is)
 
-pub returns-in-Denied : goal.returns-in-Denied
+pub returns-in-Ok-Denied : goal.returns-in-Ok-Denied
 unfolding verdict_number
-returns-in-Denied c = rw (c.pack-in-Denied.ensures, c.in-Denied.is)
+returns-in-Ok-Denied c = rw (c.pack-in-Ok-Denied.ensures, c.in-Ok-Denied.is, rw c.in-Ok-Denied.is at c.in-Ok-Denied.field-0-is)
 
-pub returns-in-Refused : goal.returns-in-Refused
+pub returns-in-Err : goal.returns-in-Err
 unfolding verdict_number
-returns-in-Refused c = rw (c.refused.ensures, c.in-Refused.is)
+returns-in-Err c = rw (c.refused.ensures, c.in-Err.is)

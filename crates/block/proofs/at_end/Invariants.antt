@@ -1,11 +1,8 @@
-use Prim.Native.Nat.{◌≤◌, ◌-◌}
+use Prim.Native.Nat.{◌-◌}
 use mathlib.Core.Path.{◌≡◌}
 use Rattle.base.specs.Choice.{both}
 use Rattle.block.specs.Block.{at_end_from}
 use Rattle.block.proofs.at_end.Given as goal
 
 abbrev pub invariant-loop-i : goal.invariant-loop-i
-invariant-loop-i l = (l.i ≤ 1290) × (both l.ok (at_end_from l.dir l.cursors l.i (1290 - l.i)) ≡ at_end_from l.dir l.cursors 0 1290)
-
-abbrev pub decreases-loop-i : goal.decreases-loop-i
-decreases-loop-i l = 1290 - l.i
+invariant-loop-i l = both l.ok (at_end_from l.dir l.cursors l.i (1290 - l.i)) ≡ at_end_from l.dir l.cursors 0 1290

@@ -1,14 +1,11 @@
-use mathlib.Core.Path.{ap, ◌∙◌}
+use mathlib.Core.Path.{refl, ap, ◌∙◌}
 use Rattle.choices.specs.Choices.{by_rise, lean_digits}
+use Rattle.pieces.specs.declared.Piece.{Piece}
+use Rattle.pieces.specs.declared.Piece.TheVariants as piece
+use Rattle.choices.specs.declared.Choice.TheVariants as choice
+use Rattle.std.specs.Prelude.{ℕ}
+use mathlib.Core.Path.{◌≡◌}
 use Rattle.choices.proofs.lean_digits.Goals as goal
-
-pub returns-in-String : goal.returns-in-String
-unfolding lean_digits
-returns-in-String c = rw c.in-String.is
-
-pub returns-in-Char : goal.returns-in-Char
-unfolding lean_digits
-returns-in-Char c = rw c.in-Char.is
 
 pub returns-in-Digits : goal.returns-in-Digits
 unfolding lean_digits
@@ -16,6 +13,13 @@ returns-in-Digits c =
     let n = c.args.n in
     rw c.in-Digits.is (c.by_rise.ensures ∙ ap (by_rise n) c.rise_of.ensures)
 
-pub returns-in-Digits0 : goal.returns-in-Digits0
+-- of another kind
+other : (i : ℕ) (u : Piece) → ((m : ℕ) → u ≡ piece.Digits m → ⊥) → choice.Itself (piece.Digits i) ≡ lean_digits i u
 unfolding lean_digits
-returns-in-Digits0 c = rw c.in-Digits0.is
+other i (piece.String s z) n = refl
+other i (piece.Char b) n = refl
+other i (piece.Digits m) n = absurd (n m refl)
+other i (piece.Digits0 y) n = refl
+
+pub returns-in_default : goal.returns-in_default
+returns-in_default c = other c.args.n c.args.u c.in_default.not-Digits

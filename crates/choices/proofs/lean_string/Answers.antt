@@ -3,6 +3,11 @@ use native.Mathlib.Omega.{arith}
 use Rattle.base.specs.Memory.{part}
 use Rattle.base.proofs.Choice.{took, left}
 use Rattle.choices.specs.Choices.{lean_string}
+use Rattle.pieces.specs.declared.Piece.{Piece}
+use Rattle.pieces.specs.declared.Piece.TheVariants as piece
+use Rattle.choices.specs.declared.Choice.TheVariants as choice
+use Rattle.std.specs.Prelude.{ℕ, List}
+use mathlib.Core.Path.{◌≡◌}
 use Rattle.choices.proofs.lean_string.Goals as goal
 
 pub slice_bounds-same-count-in-String : goal.slice_bounds-same-count-in-String
@@ -30,14 +35,13 @@ unfolding lean_string part
 returns-else-same c =
     rw c.in-String.is (left _ _ (sym c.same.ensures ∙ c.if-same.false) refl)
 
-pub returns-in-Char : goal.returns-in-Char
+-- of another kind
+other : (name : List ℕ) (a e : ℕ) (before : List ℕ) (u : Piece) → ((s z : ℕ) → u ≡ piece.String s z → ⊥) → choice.Itself (piece.String a e) ≡ lean_string name a e before u
 unfolding lean_string
-returns-in-Char c = rw c.in-Char.is
+other name a e before (piece.String s z) n = absurd (n s z refl)
+other name a e before (piece.Char b) n = refl
+other name a e before (piece.Digits m) n = refl
+other name a e before (piece.Digits0 y) n = refl
 
-pub returns-in-Digits : goal.returns-in-Digits
-unfolding lean_string
-returns-in-Digits c = rw c.in-Digits.is
-
-pub returns-in-Digits0 : goal.returns-in-Digits0
-unfolding lean_string
-returns-in-Digits0 c = rw c.in-Digits0.is
+pub returns-in_default : goal.returns-in_default
+returns-in_default c = other c.args.name.now c.args.a c.args.e c.args.before.now c.args.u c.in_default.not-String

@@ -1,9 +1,7 @@
 use native.Mathlib.Omega.{arith}
 use mathlib.Core.Path.{sym, ◌∙◌}
-use mathlib.Core.Bool.{true}
 use Rattle.base.specs.Memory.{part}
 use Rattle.tables.specs.Tables.{room}
-use Rattle.kept.specs.Judgement.{text_counts, entry_text}
 use Rattle.kept.proofs.Laws.{text_counted, text_inside}
 use Rattle.claims.specs.Claims.{name_text}
 use Rattle.claims.proofs.Laws.{unsound, unread, outside, equal, unequal}

@@ -1,9 +1,8 @@
-use Prim.Native.Nat.{◌-◌}
-use Rattle.classes.proofs.Laws.{Passed}
+use mathlib.Core.Path.{◌≡◌}
+use lib.ListN.{length}
+use Rattle.base.specs.Memory.{part}
+use Rattle.classes.specs.Classes.{all_allowed}
 use Rattle.classes.proofs.all_allowed.Given as goal
 
-abbrev pub invariant-loop-i : goal.invariant-loop-i
-invariant-loop-i l = Passed l.bytes l.from l.to l.i
-
-abbrev pub decreases-loop-i : goal.decreases-loop-i
-decreases-loop-i l = l.to - l.i
+abbrev pub invariant-loop-b : goal.invariant-loop-b
+invariant-loop-b l = all_allowed (part l.bytes l.b-index (length l.bytes)) ≡ all_allowed l.bytes

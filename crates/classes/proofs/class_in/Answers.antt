@@ -1,10 +1,15 @@
-use mathlib.Core.Path.{sym, ◌∙◌}
+use mathlib.Core.Path.{sym, ap, ◌∙◌}
 use native.Mathlib.Omega.{arith}
-use Rattle.classes.proofs.Laws.{barred_tabled, allowed_tabled, tabled_allowed, barred_class}
+use Rattle.classes.proofs.Laws.{told, told_class, told_other}
 use Rattle.classes.proofs.class_in.Goals as goal
 
-pub returns-then-t-eq-BARRED : goal.returns-then-t-eq-BARRED
-returns-then-t-eq-BARRED c = sym (barred_class _ (barred_tabled _ (sym c.tabled_in-t.ensures ∙ c.if-t-eq-BARRED.true)))
+pub returns-in-2 : goal.returns-in-2
+unfolding told
+returns-in-2 c = ap told (sym c.in-2.is) ∙ told_class _ c.tabled_in.ensures
 
-pub returns-else-t-eq-BARRED : goal.returns-else-t-eq-BARRED
-returns-else-t-eq-BARRED c = omega (arith, tabled_allowed _ (allowed_tabled _ (λ e. c.if-t-eq-BARRED.false (c.tabled_in-t.ensures ∙ e))))
+pub returns-in-3 : goal.returns-in-3
+unfolding told
+returns-in-3 c = ap told (sym c.in-3.is) ∙ told_class _ c.tabled_in.ensures
+
+pub returns-in_default : goal.returns-in_default
+returns-in_default c = sym (told_other _ (omega arith) (omega arith)) ∙ told_class _ c.tabled_in.ensures

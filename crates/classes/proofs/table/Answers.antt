@@ -1,7 +1,7 @@
-use borrow.Author.Rules.{rules}
+use mathlib.Core.Path.{refl}
 use Rattle.classes.specs.Classes.{class_table}
 use Rattle.classes.proofs.table.Goals as goal
 
 pub returns : goal.returns
 unfolding class_table
-returns c = search rules
+returns c = refl

@@ -18,16 +18,16 @@ returns-then-a-n c =
     let a = c.args in other_byte a.a.now a.b.now (length a.a.now - 1) (search rules)
 
 pub loop-i-init : goal.loop-i-init
-loop-i-init c = (rw both_none, search rules)
+loop-i-init c = rw both_none
 
 pub loop-i-preserved : goal.loop-i-preserved
 loop-i-preserved c =
     let l = c.loop-i in
     let a = c.args in
-    (same_turn a.a.now a.b.now l.i l.equal l.invariant.0 (omega arith) (omega arith) (rw and_both), search rules)
+    same_turn a.a.now a.b.now l.i l.equal l.invariant (omega arith) (omega arith) (rw and_both)
 
 pub returns : goal.returns
 returns c =
     let l = c.loop-i in
     let a = c.args in
-    same_done a.a.now a.b.now l.i l.equal l.invariant.0 (omega arith) (omega arith)
+    same_done a.a.now a.b.now l.i l.equal l.invariant (omega arith) (omega arith)

@@ -1,4 +1,3 @@
-use Prim.Native.Nat.{◌-◌, ◌≤◌}
 use mathlib.Core.Path.{◌≡◌}
 use lib.ListN.{drop}
 use Rattle.base.specs.Choice.{both}
@@ -6,7 +5,4 @@ use Rattle.comparing.specs.Same.{same}
 use Rattle.comparing.proofs.same.Given as goal
 
 abbrev pub invariant-loop-i : goal.invariant-loop-i
-invariant-loop-i l = (both l.equal (same (drop l.i l.a) (drop l.i l.b)) ≡ same l.a l.b) × (l.i ≤ l.n)
-
-abbrev pub decreases-loop-i : goal.decreases-loop-i
-decreases-loop-i l = l.n - l.i
+invariant-loop-i l = both l.equal (same (drop l.i l.a) (drop l.i l.b)) ≡ same l.a l.b

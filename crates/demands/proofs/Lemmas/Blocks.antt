@@ -1,5 +1,6 @@
 -- Small blocks from their streams open, and each read over them goes on to its name.
 use Prim.Native.Nat.{ℕ, zero, suc, ◌+◌, ◌*◌, ◌≤◌, ◌<◌}
+use Rattle.std.specs.Prelude.{None, Ok}
 use mathlib.Core.Path.{◌≡◌, refl, sym, ap, ◌∙◌}
 use mathlib.Core.Bool.{true}
 use mathlib.Core.List.{List, [], ◌∷◌, ◌++◌}
@@ -10,12 +11,10 @@ use lib.ListN.{length, set, replicate, length-append, length-set, length-replica
 use lib.Seq.{get_or-set_same, get_or-set_other, ext_get_or}
 use Rattle.base.specs.Choice.{both}
 use Rattle.base.proofs.Choice.{both_true, by_test, pick_true}
-use Rattle.block.specs.declared.Opened.TheVariants as opened
 use Rattle.block.specs.Block.{span_of, start_of, end_of, cursor_of, all_at_end, starts, state, Opening, opening, open_of}
 use Rattle.block.proofs.Laws.{span_below, cursor_set_same, cursor_set_other, starts_length, starts_cursor, each_at_end, sound_of, opens_fresh}
 use Rattle.tables.specs.Tables.{Kept}
 use Rattle.sources.specs.Source.{source}
-use Rattle.entries.specs.declared.Answer.TheVariants as answer
 use Rattle.outcomes.specs.Outcomes.{Outcome, outcome}
 use Rattle.inner.specs.Next.{next_of}
 use Rattle.demands.specs.Runs.{Lent, lent, read, left, reading, after, run}
@@ -145,7 +144,7 @@ module _ (xs : List Stream) (ok : in_directory xs ≡ true) where
 
   -- such a block opens, whatever the cursors held
   pub opens_over : (old : List ℕ) (count : ℕ) → length old ≡ 1290 → count ≤ 65536
-      → open_of (length (bytes_in xs)) (dir_from 0 xs) count old ≡ opening (opened.Fresh (state count 0 0 0)) (starts (dir_from 0 xs))
+      → open_of (length (bytes_in xs)) (dir_from 0 xs) count old ≡ opening (Ok (state count 0 0 0)) (starts (dir_from 0 xs))
   opens_over old count e h =
       let l : Laid 0 xs = laid xs 0 ok in
       sym (opens_fresh (length (bytes_in xs)) (dir_from 0 xs) count old
@@ -196,7 +195,7 @@ over room n xs h ok = over_count room (n + 1) n xs (omega arith) ok
 -- the read past the last name, with each cursor moved to its end
 pub over_done : (room : Buffers) (count : ℕ) (xs : List Stream) → count ≤ 65536 → in_directory xs ≡ true
     → (l : Lent) → nexts (bytes_in xs) (dir_from 0 xs) count (lent (cur_from 0 xs) (empty room (state count 0 0 0))) ≡ l → l.kept.state.names ≡ l.kept.state.count → l.cur ≡ end_from 0 xs
-    → read_from room count xs (open_in count xs).cursors (open_in count xs).answer ≡ told (outcome answer.Done l.cur l.kept)
+    → read_from room count xs (open_in count xs).cursors (open_in count xs).answer ≡ told (outcome (Ok None) l.cur l.kept)
 unfolding quick next_of
 over_done room count xs h ok l e k c =
     over_count room count count xs h ok

@@ -1,5 +1,7 @@
 -- A name read over the rows of an earlier one depends on those rows and on the text below which theirs lie, and on nothing else of the memory.
 use Prim.Native.Nat.{ℕ, ◌+◌, ◌-◌, ◌≤◌, ◌<◌}
+use Rattle.values.specs.Values.{Step}
+use Rattle.std.specs.Prelude.{Some, Ok}
 use mathlib.Core.Path.{◌≡◌, refl, sym, ap, ◌∙◌, subst}
 use mathlib.Core.List.{List, []}
 use native.Mathlib.Omega.{arith}
@@ -20,8 +22,6 @@ use Rattle.numbering.specs.declared.TokenType.TheVariants as type
 use Rattle.tokens.specs.declared.Token.{Token}
 use Rattle.tokens.specs.Tokens.{bytes_of}
 use Rattle.sources.specs.Source.{Source, Earlier, earlier}
-use Rattle.values.specs.declared.Step.{Step}
-use Rattle.values.specs.declared.Step.TheVariants as step
 use Rattle.repeats.specs.Repeats.{token_of, has_row, row_here, match_at}
 use Rattle.repeats.specs.Sound.{Rows}
 use Rattle.steps.specs.Steps.{value_step, typed_step, step_at}
@@ -50,21 +50,21 @@ module _ (s : Source) (text others : List ℕ) (rows table : Table) (first count
       (λ h. pick_either Same (eqb r.kind 2) _ _ refl (pick_either Same (eqb r.kind 4) _ _ refl refl))
 
   module _ (p : ℕ) (low : 1 ≤ p) where
-    match_prints : (t : Token) (c : Cursor) → Typed s p type.Match → p < 128 → step_at s e p ≡ step.Got t c → Same t
+    match_prints : (t : Token) (c : Cursor) → Typed s p type.Match → p < 128 → step_at s e p ≡ Ok (Some (t, c)) → Same t
     unfolding step_at typed_step barred value_step match_at has_row row_here
     match_prints t c k l q =
         let here : step_at s e p ≡ match_at e p k.past =
         ap (typed_step s e p) k.there ∙ pick_false _ _ (both_left _ (ne_eqb p 128 (λ z. omega arith))) ∙ ap (value_step s e p k.past) k.is in
-        pick_holds (λ (x : Step). x ≡ step.Got t c → Same t) (has_row e p) _ _
+        pick_holds (λ (x : Step). x ≡ Ok (Some (t, c)) → Same t) (has_row e p) _ _
         (λ h z.
         let m : p ≤ count = leb-true _ _ h in
-        let is : token_of text (row_here e p) ≡ t = cc in
-        subst Same is (row_prints_law (row_here e p) (known.each (first + (p - 1)) (omega arith) (omega arith))))
-        (λ h z. let o : ◌≡◌ {A = ℕ} 0 1 = cc in absurd (omega arith))
+        let is : ◌≡◌ {A = Token × Cursor} (token_of text (row_here e p), k.past) (t, c) = cc in
+        subst Same (ap (λ (x : Token × Cursor). x.0) is) (row_prints_law (row_here e p) (known.each (first + (p - 1)) (omega arith) (omega arith))))
+        (λ h z. cc)
         (sym here ∙ q)
 
     -- every other token has its bytes in the block, or prints a number
-    value_prints : (y : TokenType) (t : Token) (c : Cursor) → Typed s p y → p < 128 → Value s p y t c → step_at s e p ≡ step.Got t c → Same t
+    value_prints : (y : TokenType) (t : Token) (c : Cursor) → Typed s p y → p < 128 → Value s p y t c → step_at s e p ≡ Ok (Some (t, c)) → Same t
     unfolding bytes_of pick
     value_prints y t c k l (traces.string h) q = refl
     value_prints y t c k l (traces.char b) q = refl
@@ -74,10 +74,10 @@ module _ (s : Source) (text others : List ℕ) (rows table : Table) (first count
     value_prints y t c k l (traces.delta0 x) q = refl
     value_prints y t c k l (traces.match a b) q = match_prints t c k l q
 
-    way_prints : (st : Step) → StepWay s e p st → step_at s e p ≡ st → (t : Token) (c : Cursor) → st ≡ step.Got t c → Same t
-    way_prints st (halts r b) h t c q = let o : ◌≡◌ {A = ℕ} 0 1 = cc in absurd (omega arith)
-    way_prints st (closes y) h t c q = let o : ◌≡◌ {A = ℕ} 0 1 = cc in absurd (omega arith)
-    way_prints st (gives y u d k l v) h t c q = let is : u ≡ t = cc in subst Same is (value_prints y u d k l v h)
+    way_prints : (st : Step) → StepWay s e p st → step_at s e p ≡ st → (t : Token) (c : Cursor) → st ≡ Ok (Some (t, c)) → Same t
+    way_prints st (halts r b) h t c q = cc
+    way_prints st (closes y) h t c q = cc
+    way_prints st (gives y u d k l v) h t c q = let is : ◌≡◌ {A = Token × Cursor} (u, d) (t, c) = cc in subst Same (ap (λ (x : Token × Cursor). x.0) is) (value_prints y u d k l v h)
 
   -- so the name is the same over both memories
   pub name_alike : (used : ℕ) (cur : List ℕ) → name_of s (earlier others table first count) used cur ≡ name_of s e used cur

@@ -1,5 +1,11 @@
 -- A name is refused exactly where its tokens stop (specs/Stops): a refusal of the walk has its cause (`name_stops`), and the cause gives the refusal (`stops_name`).
 use Prim.Native.Nat.{ℕ, zero, suc, ◌+◌, ◌-◌, ◌^◌, ◌≤◌, ◌<◌}
+use Rattle.spans.specs.Spans.{Next}
+use Rattle.values.specs.Values.{Step}
+use Rattle.names.specs.Names.{Judged}
+use Rattle.std.specs.Prelude.{Some, None, Ok, Err}
+use Rattle.refusals.specs.declared.Reason.{Reason}
+use Rattle.refusals.specs.declared.Reason.TheVariants as reason
 use mathlib.Core.Path.{◌≡◌, refl, sym, ap, ◌∙◌, subst}
 use mathlib.Core.Bool.{true, false}
 use mathlib.Core.Logic.{⊎_elim}
@@ -11,18 +17,12 @@ use Rattle.base.proofs.Choice.{pick_true, pick_false, pick_holds, pick_either, b
 use Rattle.classes.specs.Classes.{all_allowed}
 use Rattle.digits.proofs.Laws.{fits_below, fits_zero}
 use Rattle.spans.specs.declared.Cursor.{Cursor}
-use Rattle.spans.specs.declared.NextByte.{NextByte}
-use Rattle.spans.specs.declared.NextByte.TheVariants as byte
-use Rattle.spans.specs.declared.NextFour.{NextFour}
-use Rattle.spans.specs.declared.NextFour.TheVariants as four
 use Rattle.block.specs.Streams.{digits0_stream, dzlen_stream, ddelta_stream, ddelta0_stream}
 use Rattle.numbering.specs.declared.TokenType.{TokenType}
 use Rattle.numbering.specs.declared.TokenType.TheVariants as type
 use Rattle.tokens.specs.declared.Token.{Token}
 use Rattle.tokens.specs.Tokens.{bytes_of}
 use Rattle.sources.specs.Source.{Source, Earlier, byte_in, four_in}
-use Rattle.values.specs.declared.Step.{Step}
-use Rattle.values.specs.declared.Step.TheVariants as step
 use Rattle.values.specs.Values.{string_step, char_step, digits_step, with_width, padded_of, padded_step, digits0_step}
 use Rattle.sums.specs.Sums.{delta_step, delta0_step}
 use Rattle.sums.proofs.Ways.{sum_long, sum0_long}
@@ -33,8 +33,6 @@ use Rattle.bars.proofs.Laws.{unbarred_before, unbarred_end, unbarred_other}
 use Rattle.steps.specs.Steps.{value_step, typed_step, step_at}
 use Rattle.steps.proofs.Forward.{step_typed}
 use Rattle.steps.proofs.Ways.{typed_barred}
-use Rattle.names.specs.declared.Judged.{Judged}
-use Rattle.names.specs.declared.Judged.TheVariants as judged
 use Rattle.names.specs.Names.{printable}
 use Rattle.names.specs.Judge.{summary}
 use Rattle.names.proofs.Growing.{printable_short}
@@ -46,9 +44,9 @@ use Rattle.demands.proofs.Lemmas.Traces.{StepWay, halts, closes, gives, step_way
 
 module _ (s : Source) (e : Earlier) where
   -- position 128 gives no token, so none behind it is reached
-  way_early : (p : ℕ) (t : Token) (c : Cursor) (st : Step) → StepWay s e p st → st ≡ step.Got t c → p < 128
-  way_early p t c st (halts r f) q = let z : ◌≡◌ {A = ℕ} 0 1 = cc in absurd (omega arith)
-  way_early p t c st (closes y) q = let z : ◌≡◌ {A = ℕ} 0 1 = cc in absurd (omega arith)
+  way_early : (p : ℕ) (t : Token) (c : Cursor) (st : Step) → StepWay s e p st → st ≡ Ok (Some (t, c)) → p < 128
+  way_early p t c st (halts r f) q = cc
+  way_early p t c st (closes y) q = cc
   way_early p t c st (gives y u d k l v) q = l
 
   within : (p len : ℕ) → Reached s e p len → (1 ≤ p) × (p ≤ 128)
@@ -59,36 +57,36 @@ module _ (s : Source) (e : Earlier) where
       (omega arith, omega arith)
 
   -- a refusal has its cause
-  spoilt : (p len : ℕ) (t : Token) (c : Cursor) → step_at s e p ≡ step.Got t c → printable (bytes_of s.bytes e.text t) len ≡ false → Stop s e p len 8
+  spoilt : (p len : ℕ) (t : Token) (c : Cursor) → step_at s e p ≡ Ok (Some (t, c)) → printable (bytes_of s.bytes e.text t) len ≡ false → Stop s e p len reason.BadName
   unfolding printable
   spoilt p len t c g k =
       by_test (all_allowed (bytes_of s.bytes e.text t))
       (λ a. let l = leb-false (len + length (bytes_of s.bytes e.text t)) 254 (fails (λ b. never (sym k ∙ both_of a b))) in too_long t c g (omega arith))
       (λ a. not_allowed t c g a)
 
-  goes_on : (p len : ℕ) (t : Token) (c : Cursor) → Reached s e p len → step_at s e p ≡ step.Got t c → printable (bytes_of s.bytes e.text t) len ≡ true
+  goes_on : (p len : ℕ) (t : Token) (c : Cursor) → Reached s e p len → step_at s e p ≡ Ok (Some (t, c)) → printable (bytes_of s.bytes e.text t) len ≡ true
       → Reached s e (p + 1) (len + length (bytes_of s.bytes e.text t))
   unfolding printable
   goes_on p len t c r g k = at_next p len t c r g (both_true (all_allowed (bytes_of s.bytes e.text t)) _ k).0 (printable_short _ _ k)
 
-  module _ (p len n r : ℕ) (h : Reached s e p len) (rest : ℕ → ℕ → Judged)
-      (more : (k m : ℕ) → Reached s e (p + 1) k → rest k m ≡ judged.Refused r → StopsAt s e r) where
-    stopped : (x : ℕ) → Stop s e p len x → x ≡ r → StopsAt s e r
+  module _ (p len n : ℕ) (r : Reason) (h : Reached s e p len) (rest : ℕ → ℕ → Judged)
+      (more : (k m : ℕ) → Reached s e (p + 1) k → rest k m ≡ Err r → StopsAt s e r) where
+    stopped : (x : Reason) → Stop s e p len x → x ≡ r → StopsAt s e r
     stopped x c z = record { position = p; printed = len; reached = h; stops = subst (Stop s e p len) z c }
 
-    stops_on : (st : Step) → step_at s e p ≡ st → StepWay s e p st → judge_on s e len n st rest ≡ judged.Refused r → StopsAt s e r
+    stops_on : (st : Step) → step_at s e p ≡ st → StepWay s e p st → judge_on s e len n st rest ≡ Err r → StopsAt s e r
     unfolding judge_on
     stops_on st g (halts x c) = λ q. stopped x (c len) (let z : x ≡ r = cc in z)
     stops_on st g (closes y) =
-        pick_holds (λ (a : Judged). a ≡ judged.Refused r → StopsAt s e r) (eqb len 0) _ _
-        (λ k q. stopped 8 (empty y (eqb-true len 0 k)) (let z : ◌≡◌ {A = ℕ} 8 r = cc in z))
-        (λ k q. let z : ◌≡◌ {A = ℕ} 0 1 = cc in absurd (omega arith))
+        pick_holds (λ (a : Judged). a ≡ Err r → StopsAt s e r) (eqb len 0) _ _
+        (λ k q. stopped reason.BadName (empty y (eqb-true len 0 k)) (let z : reason.BadName ≡ r = cc in z))
+        (λ k q. cc)
     stops_on st g (gives y t c k l v) =
-        pick_holds (λ (a : Judged). a ≡ judged.Refused r → StopsAt s e r) (printable (bytes_of s.bytes e.text t) len) _ _
+        pick_holds (λ (a : Judged). a ≡ Err r → StopsAt s e r) (printable (bytes_of s.bytes e.text t) len) _ _
         (λ b q. more _ _ (goes_on p len t c h g b) q)
-        (λ b q. stopped 8 (spoilt p len t c g b) (let z : ◌≡◌ {A = ℕ} 8 r = cc in z))
+        (λ b q. stopped reason.BadName (spoilt p len t c g b) (let z : reason.BadName ≡ r = cc in z))
 
-  stops_from : (f p len n r : ℕ) → f + p ≡ 129 → Reached s e p len → judge_from s e f p len n ≡ judged.Refused r → StopsAt s e r
+  stops_from : (f p len n : ℕ) (r : Reason) → f + p ≡ 129 → Reached s e p len → judge_from s e f p len n ≡ Err r → StopsAt s e r
   unfolding judge_from
   stops_from zero p len n r l h q = absurd (omega (arith, (within p len h).1))
   stops_from (suc f) p len n r l h q =
@@ -100,7 +98,7 @@ unfolding summary
 name_stops s e used cur r q = stops_from s e 128 1 0 0 r refl at_first (sym (judge_of s e used cur) ∙ ap summary q)
 
 -- a cause gives its refusal: first what the step at its position comes to
-misfits : (n w : ℕ) (c : Cursor) → Misfit n w → padded_step n w c ≡ step.Refused 6
+misfits : (n w : ℕ) (c : Cursor) → Misfit n w → padded_step n w c ≡ Err reason.BadNumber
 unfolding padded_step
 misfits n w c f =
     pick_false _ _
@@ -121,69 +119,69 @@ carried type.Match a b = refl
 carried type.End a b = absurd (b refl)
 carried type.Other a b = absurd (a refl)
 
-no_width : (v : NextFour) → digits0_step (padded_of v byte.Short) ≡ step.Refused 2
+no_width : (v : Next) → digits0_step (padded_of v None) ≡ Err reason.Short
 unfolding padded_of with_width digits0_step
-no_width (four.Value n c) = refl
-no_width four.Short = refl
+no_width (Some (n, c)) = refl
+no_width None = refl
 
 module _ (s : Source) (e : Earlier) (p : ℕ) where
   typed_step_law : (y : TokenType) (q : Typed s p y) → barred p y ≡ false → step_at s e p ≡ value_step s e p q.past y
   typed_step_law y q h = step_typed s e p q.there y q.is h
 
-  last_step : (y : TokenType) → p ≡ 128 → Typed s p y → (y ≡ type.Other → ⊥) → (y ≡ type.End → ⊥) → step_at s e p ≡ step.Refused 7
+  last_step : (y : TokenType) → p ≡ 128 → Typed s p y → (y ≡ type.Other → ⊥) → (y ≡ type.End → ⊥) → step_at s e p ≡ Err reason.NotEnd
   unfolding step_at barred
   last_step y h q a b = ap (typed_step s e p) q.there ∙ sym (typed_barred s e p _ _ (sym q.is) (both_of (eq-eqb _ _ h) (carried y a b)))
 
-  delta_fits : Fitting e p 7 → (v : NextByte) → byte_in s p ddelta_stream ≡ v → delta_at s e p ≡ delta_step (row_here e p).number v
+  delta_fits : Fitting e p 7 → (v : Next) → byte_in s p ddelta_stream ≡ v → delta_at s e p ≡ delta_step (row_here e p).number v
   unfolding delta_at
   delta_fits f v z = pick_true _ _ (has_kind_law e p 7 f) ∙ ap (delta_step (row_here e p).number) z
 
-  delta0_fits : Fitting e p 4 → (v : NextByte) → byte_in s p ddelta0_stream ≡ v → delta0_at s e p ≡ delta0_step (row_here e p).number (row_here e p).width v
+  delta0_fits : Fitting e p 4 → (v : Next) → byte_in s p ddelta0_stream ≡ v → delta0_at s e p ≡ delta0_step (row_here e p).number (row_here e p).width v
   unfolding delta0_at
   delta0_fits f v z = pick_true _ _ (has_kind_law e p 4 f) ∙ ap (delta0_step (row_here e p).number (row_here e p).width) z
 
-  sum_misfits : (n w d : ℕ) (c : Cursor) → Misfit (n + d) w → delta0_step n w (byte.Value d c) ≡ step.Refused 6
+  sum_misfits : (n w d : ℕ) (c : Cursor) → Misfit (n + d) w → delta0_step n w (Some (d, c)) ≡ Err reason.BadNumber
   unfolding delta0_step
-  sum_misfits n w d c g = pick_either (λ (x : Step). x ≡ step.Refused 6) _ _ _ (misfits (n + d) w c g) refl
+  sum_misfits n w d c g = pick_either (λ (x : Step). x ≡ Err reason.BadNumber) _ _ _ (misfits (n + d) w c g) refl
 
   module _ (len n : ℕ) (rest : ℕ → ℕ → Judged) where
-    abbrev Refuses : ℕ → Type 0
-    Refuses r = judge_on s e len n (step_at s e p) rest ≡ judged.Refused r
+    abbrev Refuses : Reason → Type 0
+    Refuses r = judge_on s e len n (step_at s e p) rest ≡ Err r
 
-    by_step : (r : ℕ) → step_at s e p ≡ step.Refused r → Refuses r
+    by_step : (r : Reason) → step_at s e p ≡ Err r → Refuses r
     unfolding judge_on
     by_step r q = ap (λ (st : Step). judge_on s e len n st rest) q
 
-    by_value : (r : ℕ) (y : TokenType) → p < 128 → (q : Typed s p y) → value_step s e p q.past y ≡ step.Refused r → Refuses r
+    by_value : (r : Reason) (y : TokenType) → p < 128 → (q : Typed s p y) → value_step s e p q.past y ≡ Err r → Refuses r
     by_value r y l q v = by_step r (typed_step_law y q (unbarred_before p y l) ∙ v)
 
-    spoils : (t : Token) (c : Cursor) → step_at s e p ≡ step.Got t c → printable (bytes_of s.bytes e.text t) len ≡ false → Refuses 8
+    spoils : (t : Token) (c : Cursor) → step_at s e p ≡ Ok (Some (t, c)) → printable (bytes_of s.bytes e.text t) len ≡ false → Refuses reason.BadName
     unfolding judge_on
     spoils t c g k = ap (λ (st : Step). judge_on s e len n st rest) g ∙ pick_false _ _ k
 
-    stop_judges : (r : ℕ) → Stop s e p len r → Refuses r
+    stop_judges : (r : Reason) → Stop s e p len r → Refuses r
     unfolding step_at typed_step value_step string_step char_step digits_step digits0_step padded_of with_width delta_step delta0_step delta_at delta0_at judge_on printable
-    stop_judges r (ends_type z) = by_step 2 (ap (typed_step s e p) z)
-    stop_judges r (ends_string l q z) = by_value 2 type.String l q (ap string_step z)
-    stop_judges r (ends_char l q z) = by_value 2 type.Char l q (ap char_step z)
-    stop_judges r (ends_digits l q z) = by_value 2 type.Digits l q (ap digits_step z)
-    stop_judges r (ends_digits0 l q z) = by_value 2 type.Digits0 l q (ap (λ (v : NextFour). digits0_step (padded_of v (byte_in s p dzlen_stream))) z)
-    stop_judges r (ends_dzlen l q z) = by_value 2 type.Digits0 l q (ap (λ (v : NextByte). digits0_step (padded_of (four_in s p digits0_stream) v)) z ∙ no_width (four_in s p digits0_stream))
-    stop_judges r (ends_ddelta l q f z) = by_value 2 type.Delta l q (delta_fits f byte.Short z)
-    stop_judges r (ends_ddelta0 l q f z) = by_value 2 type.Delta0 l q (delta0_fits f byte.Short z)
-    stop_judges r (unknown q) = by_step 3 (typed_step_law type.Other q (unbarred_other p))
-    stop_judges r (no_row l q h) = by_value 5 type.Match l q (sym (match_none e p q.past h))
-    stop_judges r (no_digits l q f) = by_value 5 type.Delta l q (pick_false _ _ (fails (λ k. f (fitting e p 7 k))))
-    stop_judges r (no_digits0 l q f) = by_value 5 type.Delta0 l q (pick_false _ _ (fails (λ k. f (fitting e p 4 k))))
-    stop_judges r (large_sum d c l q f z h) = by_value 6 type.Delta l q (delta_fits f _ z ∙ sym (sum_long _ d c h))
-    stop_judges r (large_sum0 d c l q f z h) = by_value 6 type.Delta0 l q (delta0_fits f _ z ∙ sym (sum0_long _ d c _ h))
-    stop_judges r (long_sum0 d c l q f z g) = by_value 6 type.Delta0 l q (delta0_fits f _ z ∙ sum_misfits _ _ d c g)
+    stop_judges r (ends_type z) = by_step reason.Short (ap (typed_step s e p) z)
+    stop_judges r (ends_string l q z) = by_value reason.Short type.String l q (ap string_step z)
+    stop_judges r (ends_char l q z) = by_value reason.Short type.Char l q (ap char_step z)
+    stop_judges r (ends_digits l q z) = by_value reason.Short type.Digits l q (ap digits_step z)
+    stop_judges r (ends_digits0 l q z) = by_value reason.Short type.Digits0 l q (ap (λ (v : Next). digits0_step (padded_of v (byte_in s p dzlen_stream))) z)
+    stop_judges r (ends_dzlen l q z) = by_value reason.Short type.Digits0 l q (ap (λ (v : Next). digits0_step (padded_of (four_in s p digits0_stream) v)) z ∙ no_width (four_in s p digits0_stream))
+    stop_judges r (ends_ddelta l q f z) = by_value reason.Short type.Delta l q (delta_fits f None z)
+    stop_judges r (ends_ddelta0 l q f z) = by_value reason.Short type.Delta0 l q (delta0_fits f None z)
+    stop_judges r (unknown q) = by_step reason.UnknownType (typed_step_law type.Other q (unbarred_other p))
+    stop_judges r (no_row l q h) = by_value reason.NoRow type.Match l q (sym (match_none e p q.past h))
+    stop_judges r (no_digits l q f) = by_value reason.NoRow type.Delta l q (pick_false _ _ (fails (λ k. f (fitting e p 7 k))))
+    stop_judges r (no_digits0 l q f) = by_value reason.NoRow type.Delta0 l q (pick_false _ _ (fails (λ k. f (fitting e p 4 k))))
+    stop_judges r (large_sum d c l q f z h) = by_value reason.BadNumber type.Delta l q (delta_fits f _ z ∙ sym (sum_long _ d c h))
+    stop_judges r (large_sum0 d c l q f z h) = by_value reason.BadNumber type.Delta0 l q (delta0_fits f _ z ∙ sym (sum0_long _ d c _ h))
+    stop_judges r (long_sum0 d c l q f z g) = by_value reason.BadNumber type.Delta0 l q (delta0_fits f _ z ∙ sum_misfits _ _ d c g)
     stop_judges r (long_digits0 m w c k l q z u g) =
-        by_value 6 type.Digits0 l q
-        (ap (λ (v : NextFour). digits0_step (padded_of v (byte_in s p dzlen_stream))) z
-        ∙ ap (λ (v : NextByte). digits0_step (with_width m c v)) u
+        by_value reason.BadNumber type.Digits0 l q
+        (ap (λ (v : Next). digits0_step (padded_of v (byte_in s p dzlen_stream))) z
+        ∙ ap (λ (v : Next). digits0_step (with_width m c v)) u
         ∙ misfits m w c g)
-    stop_judges r (no_end y h q a b) = by_step 7 (last_step y h q a b)
+    stop_judges r (no_end y h q a b) = by_step reason.NotEnd (last_step y h q a b)
     stop_judges r (not_allowed t c g a) = spoils t c g (both_left _ a)
     stop_judges r (too_long t c g h) = spoils t c g (sym (long_spoils _ len _ refl h))
     stop_judges r (empty q z) = ap (λ (st : Step). judge_on s e len n st rest) (typed_step_law type.End q (unbarred_end p)) ∙ pick_true _ _ (eq-eqb len 0 z)
@@ -201,7 +199,7 @@ module _ (s : Source) (e : Earlier) where
       goes s e (suc f) f i m (i - 1) _ refl (reached_judges i m r (suc f) (i - 1) (omega arith) (omega (arith, b.0))) g (both_of a (le-leb _ _ l)) refl (omega (arith, b.0))
 
   -- at the position where they stop
-  stopped_judges : (p len r : ℕ) → Reached s e p len → Stop s e p len r → judge_from s e 128 1 0 0 ≡ judged.Refused r
+  stopped_judges : (p len : ℕ) (r : Reason) → Reached s e p len → Stop s e p len r → judge_from s e 128 1 0 0 ≡ Err r
   unfolding judge_from
   stopped_judges p len r h c =
       let b = within s e p len h in
@@ -209,7 +207,7 @@ module _ (s : Source) (e : Earlier) where
       ∙ stop_judges s e p len (p - 1) (judge_from s e (128 - p) (p + 1)) r c
 
   -- the numbers of the causes
-  pub stop_number : (p len r : ℕ) → Stop s e p len r → ByToken r
+  pub stop_number : (p len : ℕ) (r : Reason) → Stop s e p len r → ByToken r
   stop_number p len r (ends_type z) = omega arith
   stop_number p len r (ends_string l q z) = omega arith
   stop_number p len r (ends_char l q z) = omega arith

@@ -1,5 +1,7 @@
 -- From a fresh start on, what is kept and what the words still say are together what they said at first.
 use Prim.Native.Nat.{ℕ, suc, ◌+◌, ◌-◌, ◌≤◌, ◌<◌}
+use Rattle.std.specs.Prelude.{Some, None, Ok, Err}
+use Rattle.refusals.specs.declared.Reason.TheVariants as reason
 use mathlib.Core.Path.{◌≡◌, refl, sym, ap, ◌∙◌, subst}
 use mathlib.Core.Logic.{◌⊎◌, inl, inr, ⊎_elim}
 use mathlib.Core.List.{List, [], ◌∷◌}
@@ -11,12 +13,10 @@ use Rattle.base.specs.Choice.{pick}
 use Rattle.base.specs.Memory.{part}
 use Rattle.base.proofs.Choice.{pick_true, pick_false, by_test}
 use Rattle.block.specs.declared.State.{State}
-use Rattle.block.specs.declared.Refusal.TheVariants as refusal
+use Rattle.refusals.specs.declared.Refusal.TheVariants as refusal
 use Rattle.block.specs.Block.{start_of, end_of, cursor_of, state}
 use Rattle.block.proofs.Laws.{Accepted, accepted, starts_cursor}
-use Rattle.tables.specs.Tables.{Kept}
 use Rattle.sources.specs.Source.{source}
-use Rattle.entries.specs.declared.Answer.TheVariants as answer
 use Rattle.outcomes.specs.Outcomes.{Outcome, outcome, plain, at_name}
 use Rattle.inner.specs.Next.{next_of}
 use Rattle.reads.proofs.Holding.{More}
@@ -112,7 +112,7 @@ module _ (rules : Rules) (bytes dir : List ℕ) (b : Telling) where
     told_next n = rw reads (next_said rules bytes dir l.cur l.kept r.before r.spans r.sure.opened r.sure.counts r.sure.fits r.tells n)
 
     -- a read that keeps a name
-    module _ (i : ℕ) (kept : (read rules bytes dir l).answer ≡ answer.Kept i) where
+    module _ (i : ℕ) (kept : (read rules bytes dir l).answer ≡ Ok (Some i)) where
       more : More l.kept (read rules bytes dir l)
       unfolding read
       more = (ready_holds _ _ ready).more i kept
@@ -120,8 +120,8 @@ module _ (rules : Rules) (bytes dir : List ℕ) (b : Telling) where
       kept_said : (o : Outcome) (w : Said Name) → ReadSaid rules bytes dir l.cur l.kept r.before o w → read rules bytes dir l ≡ o → next rules r.before r.spans ≡ w
           → Come rules bytes dir b (left (read rules bytes dir l))
       unfolding at_name left after onto names_from go_on
-      kept_said o w (gives q) e f = let z : ◌≡◌ {A = ℕ} 0 1 = cc in absurd (omega arith)
-      kept_said o w (full n spans) e f = let z : ◌≡◌ {A = ℕ} 0 1 = cc in absurd (omega arith)
+      kept_said o w (gives q) e f = cc
+      kept_said o w (full n spans) e f = cc
       kept_said o w (keeps p n spans a t) e f =
           let left : ℕ = (read rules bytes dir l).kept.state.count - (read rules bytes dir l).kept.state.names in
           let one : count - k ≡ suc left = omega (arith, more.few, more.names, more.count) in
@@ -159,7 +159,7 @@ module _ (rules : Rules) (bytes dir : List ℕ) (b : Telling) where
 
     abbrev Answers : Type 0
     Answers = ((read rules bytes dir z).answer ≡ answer_at b z.kept.state.names)
-        ⊎ ((z.kept.state.names < length b.names) × ((read rules bytes dir z).answer ≡ answer.Refused (refusal.At 9 z.kept.state.names)))
+        ⊎ ((z.kept.state.names < length b.names) × ((read rules bytes dir z).answer ≡ Err (refusal.At reason.NoRoom z.kept.state.names)))
 
     -- at the end of the names
     at_ending : (x : Ending) → rest.names ≡ [] → rest.ending ≡ x → (read rules bytes dir z).answer ≡ ends_with z.kept.state.names x → Answers
@@ -170,7 +170,7 @@ module _ (rules : Rules) (bytes dir : List ℕ) (b : Telling) where
         inl (a ∙ ap (ends_with z.kept.state.names) (sym f ∙ r.ending) ∙ sym (pick_false _ _ (le-ltb _ _ last)))
 
     -- at a name
-    at_name_law : z.kept.state.names < length b.names → (read rules bytes dir z).answer ≡ answer.Kept z.kept.state.names → Answers
+    at_name_law : z.kept.state.names < length b.names → (read rules bytes dir z).answer ≡ Ok (Some z.kept.state.names) → Answers
     unfolding answer_at
     at_name_law h a = inl (a ∙ sym (pick_true _ _ (lt-ltb _ _ h)))
 
@@ -180,7 +180,7 @@ module _ (rules : Rules) (bytes dir : List ℕ) (b : Telling) where
     all_read e =
         let no : z.kept.state.count - z.kept.state.names ≡ 0 = omega (arith, e) in
         let none : rest ≡ record { names = []; ending = pick (all_empty r.spans) done unread } = ap (λ (n : ℕ). names_from rules n r.before r.spans) no in
-        let is : read rules bytes dir z ≡ pick (all_empty r.spans) (outcome answer.Done z.cur z.kept) (plain (source rules bytes dir z.cur) z.kept 10) =
+        let is : read rules bytes dir z ≡ pick (all_empty r.spans) (outcome (Ok None) z.cur z.kept) (plain (source rules bytes dir z.cur) z.kept reason.Unread) =
         reads z r ∙ ends_said rules bytes dir z.cur z.kept r.before r.spans r.sure.opened r.sure.counts r.sure.fits r.tells e in
         by_test (all_empty r.spans)
         (λ t. at_ending done (ap (λ (x : Telling). x.names) none) (ap (λ (x : Telling). x.ending) none ∙ pick_true _ _ t) (ap (λ (o : Outcome). o.answer) (is ∙ pick_true _ _ t)))

@@ -1,5 +1,10 @@
 -- What can stand at a position, and how a name comes about, token after token: each step that was made, with the tests that led there.
 use Prim.Native.Nat.{ℕ, zero, suc, ◌+◌, ◌≤◌, ◌<◌, ◌^◌}
+use Rattle.spans.specs.declared.Bytes.{Bytes}
+use Rattle.values.specs.Values.{Step}
+use Rattle.std.specs.Prelude.{Some, None, Ok, Err, Option}
+use Rattle.refusals.specs.declared.Reason.{Reason}
+use Rattle.refusals.specs.declared.Reason.TheVariants as reason
 use mathlib.Core.Path.{◌≡◌, refl, sym, ap, ◌∙◌, subst}
 use mathlib.Core.Bool.{true, false}
 use mathlib.Core.List.{List, []}
@@ -14,8 +19,6 @@ use Rattle.base.proofs.Numbers.{by_order}
 use Rattle.digits.specs.Digits.{fits_width}
 use Rattle.digits.proofs.Laws.{fits_of}
 use Rattle.spans.specs.declared.Cursor.{Cursor}
-use Rattle.spans.specs.declared.NextText.{NextText}
-use Rattle.spans.specs.declared.NextText.TheVariants as text
 use Rattle.spans.specs.Spans.{cursor, text_end, text_at}
 use Rattle.block.specs.Block.{span_of, end_of, cursor_of}
 use Rattle.block.specs.Streams.{type_stream, string_stream, char_stream, digits0_stream, dzlen_stream, digits_stream, ddelta_stream, ddelta0_stream}
@@ -26,8 +29,6 @@ use Rattle.tokens.specs.declared.Token.TheVariants.{String, Char, Digits, Digits
 use Rattle.tokens.specs.declared.Padded.{Padded}
 use Rattle.numbering.specs.Types.{type_of}
 use Rattle.tokens.specs.Tokens.{bytes_of}
-use Rattle.values.specs.declared.Step.{Step}
-use Rattle.values.specs.declared.Step.TheVariants as step
 use Rattle.sources.specs.Source.{Source, Earlier, byte_in, four_in, text_in}
 use Rattle.values.specs.Values.{string_step, char_step, digits_step, with_width, padded_of, padded_in, padded_step, digits0_step}
 use Rattle.sums.specs.Sums.{delta_step, delta0_step}
@@ -56,13 +57,13 @@ pub data Value (s : Source) (p : ℕ) : TokenType → Token → Cursor → Type 
 
 -- what can stand at position p: a cause to stop, whatever the length; END; or a token
 pub data StepWay (s : Source) (e : Earlier) (p : ℕ) : Step → Type 0 where
-  halts : (r : ℕ) → ((len : ℕ) → Stop s e p len r) → StepWay s e p (step.Refused r)
-  closes : Typed s p type.End → StepWay s e p step.End
-  gives : (y : TokenType) (t : Token) (c : Cursor) → Typed s p y → p < 128 → Value s p y t c → StepWay s e p (step.Got t c)
+  halts : (r : Reason) → ((len : ℕ) → Stop s e p len r) → StepWay s e p (Err r)
+  closes : Typed s p type.End → StepWay s e p (Ok None)
+  gives : (y : TokenType) (t : Token) (c : Cursor) → Typed s p y → p < 128 → Value s p y t c → StepWay s e p (Ok (Some (t, c)))
 
-text_way : (P : NextText → Type 0) (s : Source) (p : ℕ)
-    → (text_stop s p < end_of s.dir (span_of p string_stream) → P (text.Bytes (cursor (cursor_of s.cur (span_of p string_stream))) (cursor (text_stop s p)) (cursor (text_stop s p + 1))))
-    → P text.Unended → P (text_in s p string_stream)
+text_way : (P : Option Bytes → Type 0) (s : Source) (p : ℕ)
+    → (text_stop s p < end_of s.dir (span_of p string_stream) → P (Some (record { start = cursor (cursor_of s.cur (span_of p string_stream)); end = cursor (text_stop s p); next = cursor (text_stop s p + 1) })))
+    → P None → P (text_in s p string_stream)
 unfolding text_in text_at
 text_way P s p f g = pick_holds P _ _ _ (λ e. f (ltb-true _ _ e)) (λ e. g)
 
@@ -84,21 +85,21 @@ has_kind_law e p kind f = both_of (le-leb _ _ f.there) (eq-eqb _ _ f.is)
 
 module _ (s : Source) (e : Earlier) (p : ℕ) (l : p < 128) where
   padded_way : (y : TokenType) → Typed s p y → (n w : ℕ) (c : Cursor) → Value s p y (Digits0 (record { number = n; width = w })) c
-      → (Misfit n w → (len : ℕ) → Stop s e p len 6) → StepWay s e p (padded_step n w c)
+      → (Misfit n w → (len : ℕ) → Stop s e p len reason.BadNumber) → StepWay s e p (padded_step n w c)
   unfolding padded_step
-  padded_way y q n w c v f = pick_holds (StepWay s e p) (fits_width n w) _ _ (λ k. gives y _ c q l v) (λ k. halts 6 (f (misfit n w k)))
+  padded_way y q n w c v f = pick_holds (StepWay s e p) (fits_width n w) _ _ (λ k. gives y _ c q l v) (λ k. halts reason.BadNumber (f (misfit n w k)))
 
   string_way : Typed s p type.String → StepWay s e p (string_step (text_in s p string_stream))
   unfolding string_step
-  string_way q = text_way (λ v. text_in s p string_stream ≡ v → StepWay s e p (string_step v)) s p (λ h z. gives type.String _ _ q l (string h)) (λ z. halts 2 (λ len. ends_string l q z)) refl
+  string_way q = text_way (λ v. text_in s p string_stream ≡ v → StepWay s e p (string_step v)) s p (λ h z. gives type.String _ _ q l (string h)) (λ z. halts reason.Short (λ len. ends_string l q z)) refl
 
   char_way : Typed s p type.Char → StepWay s e p (char_step (byte_in s p char_stream))
   unfolding char_step
-  char_way q = byte_way (λ v. byte_in s p char_stream ≡ v → StepWay s e p (char_step v)) s p 2 (λ b z. gives type.Char _ _ q l (char b)) (λ z. halts 2 (λ len. ends_char l q z)) refl
+  char_way q = byte_way (λ v. byte_in s p char_stream ≡ v → StepWay s e p (char_step v)) s p 2 (λ b z. gives type.Char _ _ q l (char b)) (λ z. halts reason.Short (λ len. ends_char l q z)) refl
 
   digits_way : Typed s p type.Digits → StepWay s e p (digits_step (four_in s p digits_stream))
   unfolding digits_step
-  digits_way q = four_way (λ v. four_in s p digits_stream ≡ v → StepWay s e p (digits_step v)) s p 7 (λ n z. gives type.Digits _ _ q l (digits n)) (λ z. halts 2 (λ len. ends_digits l q z)) refl
+  digits_way q = four_way (λ v. four_in s p digits_stream ≡ v → StepWay s e p (digits_step v)) s p 7 (λ n z. gives type.Digits _ _ q l (digits n)) (λ z. halts reason.Short (λ len. ends_digits l q z)) refl
 
   digits0_way : Typed s p type.Digits0 → StepWay s e p (digits0_step (padded_in s p))
   unfolding padded_of with_width digits0_step
@@ -106,16 +107,16 @@ module _ (s : Source) (e : Earlier) (p : ℕ) (l : p < 128) where
       four_way (λ v. four_in s p digits0_stream ≡ v → StepWay s e p (digits0_step (padded_of v (byte_in s p dzlen_stream)))) s p 3
       (λ n z. byte_way (λ v. byte_in s p dzlen_stream ≡ v → StepWay s e p (digits0_step (with_width n (cursor (cursor_of s.cur (span_of p digits0_stream) + 4)) v))) s p 4
       (λ w u. padded_way type.Digits0 q n w _ (digits0 _) (λ f len. long_digits0 n w _ _ l q z u f))
-      (λ u. halts 2 (λ len. ends_dzlen l q u)) refl)
-      (λ z. halts 2 (λ len. ends_digits0 l q z)) refl
+      (λ u. halts reason.Short (λ len. ends_dzlen l q u)) refl)
+      (λ z. halts reason.Short (λ len. ends_digits0 l q z)) refl
 
   delta_way : Typed s p type.Delta → Fitting e p 7 → StepWay s e p (delta_step (row_here e p).number (byte_in s p ddelta_stream))
   unfolding delta_step
   delta_way q f =
       byte_way (λ v. byte_in s p ddelta_stream ≡ v → StepWay s e p (delta_step (row_here e p).number v)) s p 8
       (λ d z. pick_holds (StepWay s e p) (ltb ((row_here e p).number + d) (2 ^ 32)) _ _
-      (λ k. gives type.Delta _ _ q l (delta _)) (λ k. halts 6 (λ len. large_sum d _ l q f z (ltb-false _ _ k))))
-      (λ z. halts 2 (λ len. ends_ddelta l q f z)) refl
+      (λ k. gives type.Delta _ _ q l (delta _)) (λ k. halts reason.BadNumber (λ len. large_sum d _ l q f z (ltb-false _ _ k))))
+      (λ z. halts reason.Short (λ len. ends_ddelta l q f z)) refl
 
   delta0_way : Typed s p type.Delta0 → Fitting e p 4 → StepWay s e p (delta0_step (row_here e p).number (row_here e p).width (byte_in s p ddelta0_stream))
   unfolding delta0_step
@@ -123,25 +124,25 @@ module _ (s : Source) (e : Earlier) (p : ℕ) (l : p < 128) where
       byte_way (λ v. byte_in s p ddelta0_stream ≡ v → StepWay s e p (delta0_step (row_here e p).number (row_here e p).width v)) s p 9
       (λ d z. pick_holds (StepWay s e p) (ltb ((row_here e p).number + d) (2 ^ 32)) _ _
       (λ k. padded_way type.Delta0 q _ _ _ (delta0 _) (λ g len. long_sum0 d _ l q f z g))
-      (λ k. halts 6 (λ len. large_sum0 d _ l q f z (ltb-false _ _ k))))
-      (λ z. halts 2 (λ len. ends_ddelta0 l q f z)) refl
+      (λ k. halts reason.BadNumber (λ len. large_sum0 d _ l q f z (ltb-false _ _ k))))
+      (λ z. halts reason.Short (λ len. ends_ddelta0 l q f z)) refl
 
   -- what leans on the earlier name
   match_leans : (c : Cursor) → Typed s p type.Match → StepWay s e p (match_at e p c)
   unfolding match_at has_row
-  match_leans c q = pick_holds (StepWay s e p) (leb p e.count) _ _ (λ k. gives type.Match _ c q l (match _ c)) (λ k. halts 5 (λ len. no_row l q (leb-false _ _ k)))
+  match_leans c q = pick_holds (StepWay s e p) (leb p e.count) _ _ (λ k. gives type.Match _ c q l (match _ c)) (λ k. halts reason.NoRow (λ len. no_row l q (leb-false _ _ k)))
 
   delta_leans : Typed s p type.Delta → StepWay s e p (delta_at s e p)
   unfolding delta_at
   delta_leans q =
       pick_holds (StepWay s e p) (has_kind e p 7) _ _ (λ k. delta_way q (fitting e p 7 k))
-      (λ k. halts 5 (λ len. no_digits (omega arith) q (λ f. never (sym k ∙ has_kind_law e p 7 f))))
+      (λ k. halts reason.NoRow (λ len. no_digits (omega arith) q (λ f. never (sym k ∙ has_kind_law e p 7 f))))
 
   delta0_leans : Typed s p type.Delta0 → StepWay s e p (delta0_at s e p)
   unfolding delta0_at
   delta0_leans q =
       pick_holds (StepWay s e p) (has_kind e p 4) _ _ (λ k. delta0_way q (fitting e p 4 k))
-      (λ k. halts 5 (λ len. no_digits0 l q (λ f. never (sym k ∙ has_kind_law e p 4 f))))
+      (λ k. halts reason.NoRow (λ len. no_digits0 l q (λ f. never (sym k ∙ has_kind_law e p 4 f))))
 
 not_last : (p : ℕ) → p ≤ 128 → both (eqb p 128) true ≡ false → p < 128
 not_last p h e = by_order p 128 (λ l. l) (λ l. absurd (never (sym e ∙ both_of (eq-eqb p 128 (omega arith)) refl)))
@@ -156,14 +157,14 @@ value_way s e p c type.Delta h q n = delta_leans s e p (not_last p h n) q
 value_way s e p c type.Delta0 h q n = delta0_leans s e p (not_last p h n) q
 value_way s e p c type.Match h q n = match_leans s e p (not_last p h n) c q
 value_way s e p c type.End h q n = closes q
-value_way s e p c type.Other h q n = halts 3 (λ len. unknown q)
+value_way s e p c type.Other h q n = halts reason.UnknownType (λ len. unknown q)
 
 -- 7
-barred_way : (s : Source) (e : Earlier) (p : ℕ) (y : TokenType) → Typed s p y → barred p y ≡ true → StepWay s e p (step.Refused 7)
+barred_way : (s : Source) (e : Earlier) (p : ℕ) (y : TokenType) → Typed s p y → barred p y ≡ true → StepWay s e p (Err reason.NotEnd)
 unfolding barred carries
 barred_way s e p y q k =
     let b = both_true (eqb p 128) (carries y) k in
-    halts 7 (λ len. no_end y (eqb-true _ _ b.0) q (λ z. never (sym (ap carries z) ∙ b.1)) (λ z. never (sym (ap carries z) ∙ b.1)))
+    halts reason.NotEnd (λ len. no_end y (eqb-true _ _ b.0) q (λ z. never (sym (ap carries z) ∙ b.1)) (λ z. never (sym (ap carries z) ∙ b.1)))
 
 pub step_way : (s : Source) (e : Earlier) (p : ℕ) → p ≤ 128 → StepWay s e p (step_at s e p)
 unfolding step_at typed_step
@@ -172,7 +173,7 @@ step_way s e p h =
     (λ b z.
     let q : Typed s p (type_of s.rules.numbers b) = record { number = b; past = _; there = z; is = refl } in
     pick_holds (StepWay s e p) (barred p (type_of s.rules.numbers b)) _ _ (λ k. barred_way s e p (type_of s.rules.numbers b) q k) (λ k. value_way s e p _ (type_of s.rules.numbers b) h q k))
-    (λ z. halts 2 (λ len. ends_type z)) refl
+    (λ z. halts reason.Short (λ len. ends_type z)) refl
 
 typed_in : (s : Source) (p : ℕ) (y : TokenType) → Typed s p y → type_at s p ≡ y
 unfolding type_in

@@ -1,5 +1,11 @@
 -- A read has one of the cases of specs/Refusals: every theorem about a read goes by these.
 use Prim.Native.Nat.{ℕ, ◌-◌, ◌≤◌}
+use Rattle.refusals.specs.declared.Reason.{Reason}
+use Rattle.refusals.specs.declared.Reason.TheVariants as reason
+use Rattle.spans.specs.Spans.{Next}
+use Rattle.distances.specs.Distances.{Head}
+use Rattle.std.specs.Prelude.{Some, None, Ok, Err}
+use Rattle.distances.specs.declared.Reference.TheVariants as reference
 use mathlib.Core.Path.{◌≡◌, refl, sym, ◌∙◌, subst}
 use mathlib.Core.Bool.{true}
 use mathlib.Core.List.{List}
@@ -10,10 +16,6 @@ use lib.ListN.{length}
 use Rattle.base.specs.Choice.{both}
 use Rattle.base.proofs.Choice.{both_true, both_of, pick_holds, by_test, never}
 use Rattle.spans.specs.declared.Cursor.{Cursor}
-use Rattle.spans.specs.declared.NextByte.{NextByte}
-use Rattle.spans.specs.declared.NextByte.TheVariants as byte
-use Rattle.spans.specs.declared.NextFour.{NextFour}
-use Rattle.spans.specs.declared.NextFour.TheVariants as four
 use Rattle.block.specs.Block.{sound, all_inside, all_at_end, starts, state}
 use Rattle.block.proofs.Laws.{judged_open, sound_open}
 use Rattle.block.specs.Streams.{type_stream, dup_stream, diff_stream}
@@ -23,8 +25,6 @@ use Rattle.kept.proofs.Laws.{counted, fresh_counted, earlier}
 use Rattle.numbering.specs.Types.{Rules}
 use Rattle.sources.specs.Source.{Source, Earlier, source, byte_in, four_in}
 use Rattle.names.specs.Names.{Draft, Named, named, refused, name_of}
-use Rattle.distances.specs.declared.Head.{Head}
-use Rattle.distances.specs.declared.Head.TheVariants as head
 use Rattle.outcomes.specs.Outcomes.{plain, at_name}
 use Rattle.distances.specs.Distances.{dup_fits, diff_fits, dup_head, diff_head}
 use Rattle.heads.specs.Heads.{typed_head, head_of, head_past}
@@ -41,9 +41,9 @@ use Rattle.numbering.proofs.Laws.{dup_not_diff}
 
 -- what position 0 can say of name n
 data HeadCase (s : Source) (n : ℕ) : Head → Type 0 where
-  stops : (r : ℕ) → HeadStop s n r → HeadCase s n (head.Refused r)
-  dups : (d : ℕ) → Heads s (dup_in s) dup_stream d → Back n d → HeadCase s n (head.Dup (record { 0 = d }))
-  diffs : (d : ℕ) → Heads s (diff_in s) diff_stream d → Rule2 s n (diff_in s) d → HeadCase s n (head.Diff (record { 0 = d }))
+  stops : (r : Reason) → HeadStop s n r → HeadCase s n (Err r)
+  dups : (d : ℕ) → Heads s (dup_in s) dup_stream d → Back n d → HeadCase s n (Ok (reference.Dup (record { 0 = d })))
+  diffs : (d : ℕ) → Heads s (diff_in s) diff_stream d → Rule2 s n (diff_in s) d → HeadCase s n (Ok (reference.Diff (record { 0 = d })))
 
 -- a block that has opened is ready to be read, whatever the buffers held
 pub fresh_ready : (rules : Rules) (bytes dir : List ℕ) (count : ℕ) (old text names : List ℕ) (rows : Table) → sound (length bytes) dir old ≡ true → count ≤ 65536
@@ -77,28 +77,28 @@ diff_rule s n d e =
     (λ z. let w = eqb-false d 0 z in diff_back refl (omega arith, leb-true d n e))
 
 module _ (s : Source) (n : ℕ) where
-  dup_case : (c : Cursor) → byte_in s 0 type_stream ≡ byte.Value (dup_in s) c → (f : NextFour) → four_in s 0 dup_stream ≡ f → HeadCase s n (dup_head n f)
+  dup_case : (c : Cursor) → byte_in s 0 type_stream ≡ Some (dup_in s, c) → (f : Next) → four_in s 0 dup_stream ≡ f → HeadCase s n (dup_head n f)
   unfolding dup_head
-  dup_case c t (four.Value d k) f =
+  dup_case c t (Some (d, k)) f =
       let h : Heads s (dup_in s) dup_stream d = record { past = c; behind = k; type = t; distance = f } in
-      pick_holds (HeadCase s n) (dup_fits d n) _ _ (λ e. dups d h (back_of_law n d e)) (λ e. stops 4 (off_rule (dup_in s) dup_stream d h is_dup (λ r. never (sym e ∙ of_back n d (rule_dup s n d r)))))
-  dup_case c t four.Short f = stops 2 (no_distance (dup_in s) dup_stream c t is_dup f)
+      pick_holds (HeadCase s n) (dup_fits d n) _ _ (λ e. dups d h (back_of_law n d e)) (λ e. stops reason.BadDistance (off_rule (dup_in s) dup_stream d h is_dup (λ r. never (sym e ∙ of_back n d (rule_dup s n d r)))))
+  dup_case c t None f = stops reason.Short (no_distance (dup_in s) dup_stream c t is_dup f)
 
-  diff_case : (c : Cursor) → byte_in s 0 type_stream ≡ byte.Value (diff_in s) c → (f : NextFour) → four_in s 0 diff_stream ≡ f → HeadCase s n (diff_head n f)
+  diff_case : (c : Cursor) → byte_in s 0 type_stream ≡ Some (diff_in s, c) → (f : Next) → four_in s 0 diff_stream ≡ f → HeadCase s n (diff_head n f)
   unfolding diff_head
-  diff_case c t (four.Value d k) f =
+  diff_case c t (Some (d, k)) f =
       let h : Heads s (diff_in s) diff_stream d = record { past = c; behind = k; type = t; distance = f } in
-      pick_holds (HeadCase s n) (diff_fits d n) _ _ (λ e. diffs d h (diff_rule s n d e)) (λ e. stops 4 (off_rule (diff_in s) diff_stream d h is_diff (λ r. never (sym e ∙ rule_diff s n d r))))
-  diff_case c t four.Short f = stops 2 (no_distance (diff_in s) diff_stream c t is_diff f)
+      pick_holds (HeadCase s n) (diff_fits d n) _ _ (λ e. diffs d h (diff_rule s n d e)) (λ e. stops reason.BadDistance (off_rule (diff_in s) diff_stream d h is_diff (λ r. never (sym e ∙ rule_diff s n d r))))
+  diff_case c t None f = stops reason.Short (no_distance (diff_in s) diff_stream c t is_diff f)
 
-  type_case : (b : NextByte) → byte_in s 0 0 ≡ b → HeadCase s n (typed_head s n b)
+  type_case : (b : Next) → byte_in s 0 0 ≡ b → HeadCase s n (typed_head s n b)
   unfolding typed_head
-  type_case (byte.Value t c) f =
-      let at : (v : ℕ) → t ≡ v → byte_in s 0 0 ≡ byte.Value v c = λ v e. subst (λ (w : ℕ). byte_in s 0 0 ≡ byte.Value w c) e f in
+  type_case (Some (t, c)) f =
+      let at : (v : ℕ) → t ≡ v → byte_in s 0 0 ≡ Some (v, c) = λ v e. subst (λ (w : ℕ). byte_in s 0 0 ≡ Some (w, c)) e f in
       pick_holds (HeadCase s n) (eqb t (dup_in s)) _ _ (λ e. dup_case c (at (dup_in s) (eqb-true t (dup_in s) e)) _ refl)
       (λ e. pick_holds (HeadCase s n) (eqb t (diff_in s)) _ _ (λ g. diff_case c (at (diff_in s) (eqb-true t (diff_in s) g)) _ refl)
-      (λ g. stops 3 (no_head t c f (eqb-false t (dup_in s) e) (eqb-false t (diff_in s) g))))
-  type_case byte.Short f = stops 2 (no_type f)
+      (λ g. stops reason.UnknownType (no_head t c f (eqb-false t (dup_in s) e) (eqb-false t (diff_in s) g))))
+  type_case None f = stops reason.Short (no_type f)
 
   head_case : HeadCase s n (head_of s n)
   unfolding head_of
@@ -108,7 +108,7 @@ module _ (s : Source) (m : Kept) (r : Ready s m) (more : m.state.names ≡ m.sta
   keep_case : (x : Draft) (first rows d : ℕ) → Origin s m x first rows d → ReadCase s m (keep_of s m x first rows d)
   unfolding keep_of at_name
   keep_case x first rows d o =
-      pick_holds (ReadCase s m) (room_for m x) _ _ (λ e. keeps x first rows d r more o e) (λ e. refuses _ (unnamed 9 r more (by_room x first rows d o e)))
+      pick_holds (ReadCase s m) (room_for m x) _ _ (λ e. keeps x first rows d r more o e) (λ e. refuses _ (unnamed reason.NoRoom r more (by_room x first rows d o e)))
 
   named_case : (d : ℕ) (e : Earlier) → Leans s m d e → (a : Named) → name_of s e m.state.text (head_past s.cur diff_stream) ≡ a → ReadCase s m (named_of s m d a)
   unfolding named_of at_name
@@ -121,20 +121,20 @@ module _ (s : Source) (m : Kept) (r : Ready s m) (more : m.state.names ≡ m.sta
   unfolding diff_of
   walk_case d e l = named_case d e l _ refl
 
-  none_case : Heads s (diff_in s) diff_stream 0 → ReadCase s m (headed_of s m (head.Diff (record { 0 = 0 })))
+  none_case : Heads s (diff_in s) diff_stream 0 → ReadCase s m (headed_of s m (Ok (reference.Diff (record { 0 = 0 }))))
   unfolding headed_of
   none_case h = pick_holds (ReadCase s m) (eqb 0 0) _ _ (λ e. walk_case 0 _ (on_none h)) (λ e. absurd (eqb-false 0 0 e refl))
 
-  back_case : (d : ℕ) → Heads s (diff_in s) diff_stream d → Back m.state.names d → ReadCase s m (headed_of s m (head.Diff (record { 0 = d })))
+  back_case : (d : ℕ) → Heads s (diff_in s) diff_stream d → Back m.state.names d → ReadCase s m (headed_of s m (Ok (reference.Diff (record { 0 = d }))))
   unfolding headed_of at_name entry_back
   back_case d h b =
       pick_holds (ReadCase s m) (eqb d 0) _ _ (λ e. absurd (let z : d ≡ 0 = eqb-true d 0 e in omega arith))
       (λ e. pick_holds (ReadCase s m) (earlier_fits m (m.state.names - d)) _ _
-      (λ f. walk_case d _ (on_earlier d h b (earlier m _ f))) (λ f. refuses _ (unnamed 13 r more (by_memory (diff_in s) diff_stream d h is_diff b f))))
+      (λ f. walk_case d _ (on_earlier d h b (earlier m _ f))) (λ f. refuses _ (unnamed reason.Outside r more (by_memory (diff_in s) diff_stream d h is_diff b f))))
 
-  rule_case : (d : ℕ) → Heads s (diff_in s) diff_stream d → Rule2 s m.state.names (diff_in s) d → ReadCase s m (headed_of s m (head.Diff (record { 0 = d })))
+  rule_case : (d : ℕ) → Heads s (diff_in s) diff_stream d → Rule2 s m.state.names (diff_in s) d → ReadCase s m (headed_of s m (Ok (reference.Diff (record { 0 = d }))))
   rule_case d h (dup_back e b) = back_case d h b
-  rule_case d h (diff_none e z) = subst (λ (x : ℕ). Heads s (diff_in s) diff_stream x → ReadCase s m (headed_of s m (head.Diff (record { 0 = x })))) (sym z) none_case h
+  rule_case d h (diff_none e z) = subst (λ (x : ℕ). Heads s (diff_in s) diff_stream x → ReadCase s m (headed_of s m (Ok (reference.Diff (record { 0 = x }))))) (sym z) none_case h
   rule_case d h (diff_back e b) = back_case d h b
 
   headed_case : (a : Head) → HeadCase s m.state.names a → ReadCase s m (headed_of s m a)
@@ -142,7 +142,7 @@ module _ (s : Source) (m : Kept) (r : Ready s m) (more : m.state.names ≡ m.sta
   headed_case a (stops n q) = refuses _ (unnamed n r more (by_head n q))
   headed_case a (dups d h b) =
       pick_holds (ReadCase s m) (earlier_fits m (m.state.names - d)) _ _
-      (λ f. keep_case _ _ _ d (copied d h b (earlier m _ f))) (λ f. refuses _ (unnamed 13 r more (by_memory (dup_in s) dup_stream d h is_dup b f)))
+      (λ f. keep_case _ _ _ d (copied d h b (earlier m _ f))) (λ f. refuses _ (unnamed reason.Outside r more (by_memory (dup_in s) dup_stream d h is_dup b f)))
   headed_case a (diffs d h b) = rule_case d h b
 
 next_case : (s : Source) (m : Kept) → Ready s m → ReadCase s m (next_of s m)

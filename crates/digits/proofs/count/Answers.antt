@@ -30,5 +30,5 @@ returns-then-n-lt100000000 c = count_is _ 7 (search rules) (search rules) (searc
 pub returns-then-n-lt1000000000 : goal.returns-then-n-lt1000000000
 returns-then-n-lt1000000000 c = count_is _ 8 (search rules) (search rules) (search rules)
 
-pub returns : goal.returns
-returns c = count_is _ 9 (search rules) (search rules) (search rules)
+pub returns-else-n-lt1000000000 : goal.returns-else-n-lt1000000000
+returns-else-n-lt1000000000 c = count_is _ 9 (search rules) (search rules) (search rules)

@@ -1,7 +1,6 @@
 use Prim.Native.Nat.{ℕ, ◌+◌, ◌<◌}
 use mathlib.Core.Path.{◌≡◌}
 use mathlib.Core.List.{List}
-use lib.ListN.{length}
 use Rattle.base.specs.Memory.{written}
 use Rattle.digits.specs.Digits.{padded}
 use Rattle.digits.specs.Fractions.{whole, leading}
@@ -11,7 +10,6 @@ use Rattle.digits.proofs.put_digits.Given as goal
 pub record Filled (f w : ℕ) (buf₀ : List ℕ) (at : ℕ) (buf : List ℕ) (rest left place : ℕ) : Type 0 where
   pub within : place + left ≡ at + w
   pub parts : rest < whole
-  pub size : length buf ≡ length buf₀
   pub others : written buf place (padded (leading rest left) left) ≡ written buf₀ at (padded (leading f w) w)
 
 abbrev pub invariant-loop-left : goal.invariant-loop-left

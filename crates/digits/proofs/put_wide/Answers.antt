@@ -2,7 +2,6 @@ use borrow.Author.Rules.{rules}
 use native.Mathlib.Omega.{arith}
 use Prim.Native.Nat.{ℕ, ◌+◌, ◌-◌}
 use mathlib.Core.Path.{◌≡◌, refl}
-use lib.ListN.{length-set}
 use Rattle.digits.proofs.Fractions.{begins_more, begins_rest}
 use Rattle.digits.proofs.Steps.{digit_first, digits_done}
 use Rattle.digits.proofs.put_wide.Goals as goal
@@ -12,10 +11,7 @@ loop-place-init c =
     let a = c.args in
     let z : a.at + a.w - a.at ≡ a.w = omega arith in
     record {
-      ends = refl;
-      within = search rules;
       begins = λ _. record { parts = omega arith; digits = λ l. absurd (omega arith); zeros = λ l. refl };
-      size = refl;
       others = rw z refl;
     }
 
@@ -33,15 +29,9 @@ loop-place-preserved c =
     let d = c.lead-d.ensures in
     let end : ℕ = a.at + a.w in
     record {
-      ends = l.invariant.ends;
-      within = search rules;
       begins = begins_rest a.n f.result (end - l.place) (end - (l.place + 1)) (omega arith) (search rules) f.ensures (omega (arith, d.1));
-      size = simp length-set l.invariant.size;
       others = digit_first _ _ l.place l.buf _ (search rules) (begins_more a.n f.result (end - l.place) (end - (l.place + 1)) (omega arith) (search rules) f.ensures) (omega (arith, d.0)) l.invariant.others;
     }
-
-pub shape_of-buf : goal.shape_of-buf
-shape_of-buf c = c.loop-place.invariant.size
 
 pub returns : goal.returns
 returns c = let l = c.loop-place in digits_done _ _ l.place l.buf _ (omega arith) l.invariant.others

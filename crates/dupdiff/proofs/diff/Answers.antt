@@ -7,8 +7,8 @@ use Rattle.earlier.specs.Back.{back_of}
 use Rattle.dupdiff.proofs.diff.Goals as goal
 use Rattle.dupdiff.proofs.diff.Goals.{then-known, else-known}
 
-pub said_back-back-requires : goal.said_back-back-requires
-said_back-back-requires c = record {
+pub said_back-requires : goal.said_back-requires
+said_back-requires c = record {
   names_in_bounds = c.requires.counted.entries;
   distance_le_names = c.requires.headed.near;
 }
@@ -25,10 +25,10 @@ named-requires c =
     -- the rows that it goes by, known to fit or judged
     let gone : c.if-known.back ≡ back_of (keeping a.state [] a.entries.now (in_rows a.rows.now)) a.distance.0 =
     elim c.if-known.branch [
-      | then-known w ↦ w.back-is ∙ back_known a.state a.text.now a.entries.now (in_rows a.rows.now) a.distance.0 c.requires.known w.if-known.true c.requires.headed.near w.said_back-back.ensures
+      | then-known w ↦ w.back-is ∙ back_known a.state a.text.now a.entries.now (in_rows a.rows.now) a.distance.0 c.requires.known w.if-known.true c.requires.headed.near w.said_back.ensures
       | else-known w ↦ w.back-is ∙ w.leans-back.ensures
     ] in
-    let l = leant_rows (rules_of a.set) a.bytes.now a.dir.now a.cursors.now a.text.now a.entries.now (in_rows a.rows.now) a.state a.distance.0 gone c.requires.counted c.requires.headed.near c.requires.known c.in-Rows.is in record {
+    let l = leant_rows (rules_of a.set) a.bytes.now a.dir.now a.cursors.now a.text.now a.entries.now (in_rows a.rows.now) a.state a.distance.0 gone c.requires.counted c.requires.headed.near c.requires.known c.in-Ok.is in record {
       fact = c.requires.fact;
       counted = c.requires.counted;
       rows = l.0;
@@ -36,24 +36,24 @@ named-requires c =
       repeats = l.1;
     }
 
-pub returns-in-Rows : goal.returns-in-Rows
-returns-in-Rows c =
+pub returns-in-Ok : goal.returns-in-Ok
+returns-in-Ok c =
     let a = c.args in
     -- the rows that it goes by, known to fit or judged
     let gone : c.if-known.back ≡ back_of (keeping a.state [] a.entries.now (in_rows a.rows.now)) a.distance.0 =
     elim c.if-known.branch [
-      | then-known w ↦ w.back-is ∙ back_known a.state a.text.now a.entries.now (in_rows a.rows.now) a.distance.0 c.requires.known w.if-known.true c.requires.headed.near w.said_back-back.ensures
+      | then-known w ↦ w.back-is ∙ back_known a.state a.text.now a.entries.now (in_rows a.rows.now) a.distance.0 c.requires.known w.if-known.true c.requires.headed.near w.said_back.ensures
       | else-known w ↦ w.back-is ∙ w.leans-back.ensures
     ] in
-    diff_over (rules_of a.set) a.bytes.now a.dir.now a.cursors.now a.text.now a.entries.now (in_rows a.rows.now) a.state a.distance.0 gone c.in-Rows.is c.named.ensures
+    diff_over (rules_of a.set) a.bytes.now a.dir.now a.cursors.now a.text.now a.entries.now (in_rows a.rows.now) a.state a.distance.0 gone c.in-Ok.is c.named.ensures
 
-pub returns-in-Outside : goal.returns-in-Outside
-returns-in-Outside c =
+pub returns-in-Err : goal.returns-in-Err
+returns-in-Err c =
     let a = c.args in
     -- the rows that it goes by, known to fit or judged
     let gone : c.if-known.back ≡ back_of (keeping a.state [] a.entries.now (in_rows a.rows.now)) a.distance.0 =
     elim c.if-known.branch [
-      | then-known w ↦ w.back-is ∙ back_known a.state a.text.now a.entries.now (in_rows a.rows.now) a.distance.0 c.requires.known w.if-known.true c.requires.headed.near w.said_back-back.ensures
+      | then-known w ↦ w.back-is ∙ back_known a.state a.text.now a.entries.now (in_rows a.rows.now) a.distance.0 c.requires.known w.if-known.true c.requires.headed.near w.said_back.ensures
       | else-known w ↦ w.back-is ∙ w.leans-back.ensures
     ] in
-    diff_outside (rules_of a.set) a.bytes.now a.dir.now a.cursors.now a.text.now a.entries.now (in_rows a.rows.now) a.state a.distance.0 gone c.in-Outside.is c.refuse.ensures
+    diff_outside (rules_of a.set) a.bytes.now a.dir.now a.cursors.now a.text.now a.entries.now (in_rows a.rows.now) a.state a.distance.0 gone c.in-Err.is c.refuse.ensures

@@ -1,6 +1,5 @@
 use Rattle.dupdiff.proofs.Earlier.{back_asks, back_known, back_fits, back_text, dup_fit, dup_unfit}
 use native.Mathlib.Omega.{arith}
-use borrow.Author.Rules.{rules}
 use Rattle.tables.specs.Tables.{in_rows}
 use Rattle.dupdiff.proofs.dup.Goals as goal
 

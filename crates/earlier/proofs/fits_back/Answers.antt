@@ -1,5 +1,5 @@
-use mathlib.Core.Path.{sym}
+use mathlib.Core.Path.{sym, ◌∙◌}
 use Rattle.earlier.proofs.fits_back.Goals as goal
 
 pub returns-then-known : goal.returns-then-known
-returns-then-known c = sym (c.requires.back_value c.if-known.true)
+returns-then-known c = c.if-known.true ∙ sym (c.requires.back_value c.if-known.true)

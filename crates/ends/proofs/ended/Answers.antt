@@ -7,17 +7,17 @@ use Rattle.ends.proofs.ended.Goals as goal
 
 pub move_on-requires : goal.move_on-requires
 move_on-requires c = record {
-  cursors_len = (c.requires.le_p.1.1.1, (c.requires.le_p.0.1, omega arith));
+  cursors_len = (c.requires.le_p.1.1.1, c.requires.le_p.0.1);
   n_bound = (c.requires.len_in_bounds c.if-keeping.true).1;
 }
 
-pub put_byte-requires : goal.put_byte-requires
-put_byte-requires c =
+pub put-requires : goal.put-requires
+put-requires c =
     omega (arith, (c.requires.len_in_bounds c.if-keeping.true).0)
 
 pub returns-then-keeping : goal.returns-then-keeping
 returns-then-keeping c =
-    let k = c.if-keeping.true in let t = c.put_byte.ensures in record {
+    let k = c.if-keeping.true in let t = c.put.ensures in record {
       value = kept_ends _ _ k;
       text_value = took _ _ k (rw t);
       cursors_value = took _ _ k c.move_on.ensures;

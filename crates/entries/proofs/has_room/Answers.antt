@@ -1,28 +1,34 @@
 use Rattle.tables.specs.Tables.{entry_size, room}
 use Rattle.base.proofs.Choice.{took, left}
 use Rattle.entries.proofs.Entries.{room_test}
-use borrow.Author.Tests.{le-leb, lt-leb}
-use mathlib.Core.Path.{refl}
+use borrow.Author.Tests.{leb-true, leb-false, le-leb, lt-leb}
+use mathlib.Core.Path.{sym, ◌∙◌}
 use Prim.Native.Nat.{◌+◌}
 use native.Mathlib.Omega.{arith}
 use lib.ListN.{length}
 use Rattle.entries.proofs.has_room.Goals as goal
+use Rattle.entries.proofs.has_room.Goals.{then-state-bytes, else-state-bytes}
 
-pub returns-then-text-state : goal.returns-then-text-state
-returns-then-text-state c =
-    let a = c.args in
-    left _ _ (lt-leb (a.state.text + a.bytes + 1) (length a.text.now) (omega (arith, c.if-text-state.true))) refl
-
-pub returns-then-entries-state : goal.returns-then-entries-state
+pub returns-then-state-entries : goal.returns-then-state-entries
 unfolding room
-returns-then-entries-state c =
+returns-then-state-entries c =
     let a = c.args in
-    took _ _ (le-leb (a.state.text + a.bytes + 1) (length a.text.now) (omega (arith, c.if-text-state.false)))
-    (left _ _ (lt-leb (a.state.names + 1) (room entry_size a.entries.now) (omega (arith, c.if-entries-state.true))) refl)
+    elim c.if-state-bytes.branch [
+      | then-state-bytes w ↦
+          took _ _ (le-leb (a.state.text + a.bytes + 1) (length a.text.now) (omega (arith, w.if-state-bytes.true)))
+          (took _ _ (le-leb (a.state.names + 1) (room entry_size a.entries.now) (omega (arith, leb-true _ _ (sym w.value-is ∙ c.if-state-entries.true))))
+          (room_test a.rows.now (a.state.rows + a.added)))
+      | else-state-bytes w ↦ absurd (omega (arith, leb-true _ _ (sym w.value-is ∙ c.if-state-entries.true), w.if-state-bytes.false))
+    ]
 
-pub returns : goal.returns
+pub returns-else-state-entries : goal.returns-else-state-entries
 unfolding room
-returns c =
+returns-else-state-entries c =
     let a = c.args in
-    took _ _ (le-leb (a.state.text + a.bytes + 1) (length a.text.now) (omega (arith, c.if-text-state.false)))
-    (took _ _ (le-leb (a.state.names + 1) (room entry_size a.entries.now) (omega (arith, c.if-entries-state.false))) (room_test a.rows.now (a.state.rows + a.added)))
+    elim c.if-state-bytes.branch [
+      | then-state-bytes w ↦
+          took _ _ (le-leb (a.state.text + a.bytes + 1) (length a.text.now) (omega (arith, w.if-state-bytes.true)))
+          (left _ _ (lt-leb (a.state.names + 1) (room entry_size a.entries.now) (omega (arith, leb-false _ _ (sym w.value-is ∙ c.if-state-entries.false))))
+          c.if-state-entries.false)
+      | else-state-bytes w ↦ left _ _ (lt-leb (a.state.text + a.bytes + 1) (length a.text.now) (omega (arith, w.if-state-bytes.false))) c.if-state-entries.false
+    ]

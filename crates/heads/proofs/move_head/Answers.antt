@@ -1,3 +1,4 @@
+use Rattle.block.proofs.Laws.{stream_below}
 use Rattle.heads.proofs.Heads.{head_kept, head_moved}
 use native.Mathlib.Omega.{arith}
 use borrow.Author.Rules.{rules}
@@ -11,7 +12,7 @@ returns c =
 pub move_on-requires-2 : goal.move_on-requires-2
 move_on-requires-2 c =
     let p = c.requires in
-    let k = head_kept _ _ _ _ c.move_on.ensures p.cursors_len.1.0 p.cursors_len.1.1 in record {
-      cursors_len = (search rules, (search rules, search rules));
+    let k = head_kept _ _ _ _ c.move_on.ensures p.cursors_len.1 (stream_below c.args.stream) in record {
+      cursors_len = (search rules, search rules);
       n_bound = omega (arith, k, p.passable.four);
     }

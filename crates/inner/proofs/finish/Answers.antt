@@ -6,4 +6,4 @@ pub returns-then-at_end : goal.returns-then-at_end
 returns-then-at_end c = finish_done _ (sym c.at_end.ensures ∙ c.if-at_end.true)
 
 pub returns-else-at_end : goal.returns-else-at_end
-returns-else-at_end c = finish_short _ (sym c.at_end.ensures ∙ c.if-at_end.false)
+returns-else-at_end c = finish_short _ (sym c.at_end.ensures ∙ c.if-at_end.false) c.refuse_plain.ensures

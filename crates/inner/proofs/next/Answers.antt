@@ -2,7 +2,8 @@ use Rattle.inner.proofs.Outcomes.{next_finished, next_dup, next_diff, next_refus
 use Rattle.heads.proofs.Heads.{head_passable, dup_told, diff_told}
 use Rattle.sources.specs.Source.{source}
 use native.Mathlib.Omega.{arith}
-use mathlib.Core.Path.{sym, ◌∙◌}
+use Rattle.std.specs.Prelude.{Ok}
+use mathlib.Core.Path.{sym, ap, ◌∙◌}
 use Rattle.numbering.specs.Types.{rules_of}
 use Rattle.tables.specs.Tables.{in_rows}
 use Rattle.inner.proofs.next.Goals as goal
@@ -15,7 +16,7 @@ returns-then-k-state c =
 pub dup-requires : goal.dup-requires
 dup-requires c =
     let a = c.args in
-    let t = dup_told (source (rules_of a.set) a.bytes.now a.dir.now a.cursors.now) a.state.names _ (sym c.head.ensures ∙ c.in-Dup.is) in record {
+    let t = dup_told (source (rules_of a.set) a.bytes.now a.dir.now a.cursors.now) a.state.names _ (sym c.head.ensures ∙ c.in-Ok-Dup.is ∙ ap Ok c.in-Ok-Dup.field-0-is) in record {
       counted = c.requires.counted;
       le_distance = (t.0, t.1.near);
       cursors_len = (c.requires.fact.table, head_passable _ _ _ _ _ _ _ (λ i. omega (arith, c.type_inv.dir i)) t.1);
@@ -27,21 +28,21 @@ diff-requires c =
     let a = c.args in record {
       fact = c.requires.fact;
       counted = c.requires.counted;
-      headed = diff_told (source (rules_of a.set) a.bytes.now a.dir.now a.cursors.now) a.state.names _ (sym c.head.ensures ∙ c.in-Diff.is);
+      headed = diff_told (source (rules_of a.set) a.bytes.now a.dir.now a.cursors.now) a.state.names _ (sym c.head.ensures ∙ c.in-Ok-Diff.is ∙ ap Ok c.in-Ok-Diff.field-0-is);
       known = c.requires.known;
     }
 
-pub returns-in-Dup : goal.returns-in-Dup
-returns-in-Dup c =
+pub returns-in-Ok-Dup : goal.returns-in-Ok-Dup
+returns-in-Ok-Dup c =
     let a = c.args in
-    next_dup (rules_of a.set) a.bytes.now a.dir.now a.cursors.now a.text.now a.entries.now (in_rows a.rows.now) a.state c.if-k-state.false _ c.head.ensures c.in-Dup.is (c.dup.ensures (rules_of a.set) a.bytes.now a.dir.now)
+    next_dup (rules_of a.set) a.bytes.now a.dir.now a.cursors.now a.text.now a.entries.now (in_rows a.rows.now) a.state c.if-k-state.false _ c.head.ensures (c.in-Ok-Dup.is ∙ ap Ok c.in-Ok-Dup.field-0-is) (c.dup.ensures (rules_of a.set) a.bytes.now a.dir.now)
 
-pub returns-in-Diff : goal.returns-in-Diff
-returns-in-Diff c =
+pub returns-in-Ok-Diff : goal.returns-in-Ok-Diff
+returns-in-Ok-Diff c =
     let a = c.args in
-    next_diff (rules_of a.set) a.bytes.now a.dir.now a.cursors.now a.text.now a.entries.now (in_rows a.rows.now) a.state c.if-k-state.false _ c.head.ensures c.in-Diff.is c.diff.ensures
+    next_diff (rules_of a.set) a.bytes.now a.dir.now a.cursors.now a.text.now a.entries.now (in_rows a.rows.now) a.state c.if-k-state.false _ c.head.ensures (c.in-Ok-Diff.is ∙ ap Ok c.in-Ok-Diff.field-0-is) c.diff.ensures
 
-pub returns-in-Refused : goal.returns-in-Refused
-returns-in-Refused c =
+pub returns-in-Err : goal.returns-in-Err
+returns-in-Err c =
     let a = c.args in
-    next_refused (rules_of a.set) a.bytes.now a.dir.now a.cursors.now a.text.now a.entries.now (in_rows a.rows.now) a.state c.if-k-state.false _ c.head.ensures c.in-Refused.is c.refuse.ensures
+    next_refused (rules_of a.set) a.bytes.now a.dir.now a.cursors.now a.text.now a.entries.now (in_rows a.rows.now) a.state c.if-k-state.false _ c.head.ensures c.in-Err.is c.refuse.ensures

@@ -1,4 +1,3 @@
-use Prim.Native.Nat.{◌-◌}
 use Rattle.inputs.proofs.Laws.{name_starts, name_more, name_ends, not_last}
 use Rattle.inputs.proofs.name_end.Goals as goal
 

@@ -1,23 +1,18 @@
-use Prim.Native.Nat.{◌+◌, ◌*◌}
-use native.Mathlib.Omega.{arith}
-use Rattle.block.specs.Block.{end_of}
-use Rattle.laying.specs.Passes.{step_of}
-use Rattle.laying.proofs.Writes.{length_text_law}
+use mathlib.Core.Path.{sym, ap, ◌∙◌, subst}
+use mathlib.Core.List.{[], ◌∷◌}
+use Rattle.laying.specs.Puts.{put}
+use Rattle.laying.specs.Passes.{world, step_of, Room}
+use Rattle.laying.proofs.Writes.{room_next, step_next}
 use Rattle.laying.proofs.put_text.Goals as goal
 
-pub overflow_cast-at : goal.overflow_cast-at
-overflow_cast-at c =
-    omega (arith, c.type_inv.directory (2 * c.args.span.0 + 1))
-
-pub write_text-requires : goal.write_text-requires
-unfolding end_of
-write_text-requires c = let p = c.requires in record {
-  from_le_to = p.from_le_to;
-  from_in_bounds = λ e. p.room.place e;
-}
+pub put_byte-requires : goal.put_byte-requires
+put_byte-requires c =
+    let a = c.args in
+    subst (Room a.pass a.span.0 1) (sym c.put_bytes-next.ensures) (room_next a.pass a.span.0 1 a.text.now (world a.total a.directory.now a.bytes.now) c.requires)
 
 pub returns : goal.returns
-unfolding step_of end_of
 returns c =
     let a = c.args in
-    rw (c.advance.ensures, c.write_text.ensures, length_text_law a.name.now a.from a.to c.requires.from_le_to.0 c.requires.from_le_to.1)
+    c.put_byte.ensures
+    ∙ ap (step_of a.pass (put a.span.0 (0 ∷ []))) c.put_bytes-next.ensures
+    ∙ step_next a.pass a.span.0 a.text.now (0 ∷ []) (world a.total a.directory.now a.bytes.now) c.requires

@@ -7,10 +7,10 @@ use Rattle.leaves.proofs.leaf_text.Goals as goal
 pub returns-then-bytes-end : goal.returns-then-bytes-end
 returns-then-bytes-end c = left _ _ (lt-leb _ _ c.if-bytes-end.true) refl
 
-pub returns-in-Bytes : goal.returns-in-Bytes
+pub returns-in-Some : goal.returns-in-Some
 unfolding text_number
-returns-in-Bytes c = took _ _ (le-leb _ _ c.if-bytes-end.false) (sym (ap text_number c.in-Bytes.is) ∙ ap text_number c.next_text.ensures)
+returns-in-Some c = took _ _ (le-leb _ _ c.if-bytes-end.false) (sym (ap text_number c.in-Some.is) ∙ ap text_number c.next_text.ensures)
 
-pub returns-in-Unended : goal.returns-in-Unended
+pub returns-in-None : goal.returns-in-None
 unfolding text_number
-returns-in-Unended c = took _ _ (le-leb _ _ c.if-bytes-end.false) (sym (ap text_number c.in-Unended.is) ∙ ap text_number c.next_text.ensures)
+returns-in-None c = took _ _ (le-leb _ _ c.if-bytes-end.false) (sym (ap text_number c.in-None.is) ∙ ap text_number c.next_text.ensures)

@@ -5,7 +5,7 @@ use Rattle.pages.specs.Page.{page}
 use native.Mathlib.Nat.{le_of_lt}
 use native.Mathlib.Omega.{arith}
 use lib.ListN.{length}
-use Prim.Native.Nat.{◌-◌, ◌<◌}
+use Prim.Native.Nat.{◌<◌}
 use mathlib.Core.Path.{refl, ◌∙◌}
 use Rattle.lines.proofs.put_lines.Goals as goal
 
@@ -18,35 +18,20 @@ pub name_end-end-requires : goal.name_end-end-requires
 name_end-end-requires c =
     (c.loop-start-test.true, c.requires.input_value.0)
 
-pub slice_bounds-put_line-count : goal.slice_bounds-put_line-count
-slice_bounds-put_line-count c =
-    c.loop-start.invariant.1.stands.low
-
-pub slice_bounds-put_line-start : goal.slice_bounds-put_line-start
-slice_bounds-put_line-start c =
-    c.loop-start.invariant.1.stands.low
-
-pub slice_bounds-put_line-end : goal.slice_bounds-put_line-end
-slice_bounds-put_line-end c =
-    c.loop-start.invariant.1.stands.high
-
-pub slice_bounds-put_line-count-in-loop-start : goal.slice_bounds-put_line-count-in-loop-start
-slice_bounds-put_line-count-in-loop-start c = c.name_end-end.ensures.low
-
-pub slice_bounds-put_line-start-in-loop-start : goal.slice_bounds-put_line-start-in-loop-start
-slice_bounds-put_line-start-in-loop-start c = c.name_end-end.ensures.low
-
-pub slice_bounds-put_line-end-in-loop-start : goal.slice_bounds-put_line-end-in-loop-start
-slice_bounds-put_line-end-in-loop-start c = le_of_lt c.name_end-end.ensures.high
-
 pub put_line-at-requires : goal.put_line-at-requires
 unfolding part
 put_line-at-requires c =
     let l = c.loop-start in
     let a = c.args in record {
       table_value = c.requires.table_value;
-      has_room = names_room a.input.now (page a.out.now 0) (page l.out l.at) l.n l.from l.to l.start l.invariant.1 _ c.name_end-end.ensures;
+      has_room = names_room a.input.now (page a.out.now 0) (page l.out l.at) l.n l.before.now l.start l.invariant.1 _ c.name_end-end.ensures;
     }
+
+pub slice_bounds-name-start : goal.slice_bounds-name-start
+slice_bounds-name-start c = c.name_end-end.ensures.low
+
+pub slice_bounds-name-end : goal.slice_bounds-name-end
+slice_bounds-name-end c = le_of_lt c.name_end-end.ensures.high
 
 pub overflow_add-start : goal.overflow_add-start
 overflow_add-start c =
@@ -58,7 +43,7 @@ pub overflow_add-n : goal.overflow_add-n
 overflow_add-n c =
     let l = c.loop-start in
     let a = c.args in
-    let h = names_count a.input.now l.n l.from l.to l.start l.invariant.1.stands _ c.name_end-end.ensures in
+    let h = names_count a.input.now l.n l.start l.invariant.1.stands _ c.name_end-end.ensures in
     omega (arith, c.requires.input_value.1)
 
 pub loop-start-smaller : goal.loop-start-smaller
@@ -71,7 +56,7 @@ unfolding part
 loop-start-preserved c =
     let l = c.loop-start in
     let a = c.args in
-    (c.put_line-at.auto.out ∙ l.invariant.0, names_more a.input.now (page a.out.now 0) (page l.out l.at) l.n l.from l.to l.start l.invariant.1 _ c.name_end-end.ensures c.put_line-at.ensures)
+    (c.put_line-at.auto.out ∙ l.invariant.0, names_more a.input.now (page a.out.now 0) (page l.out l.at) l.n l.before.now l.start l.invariant.1 _ c.name_end-end.ensures c.put_line-at.ensures)
 
 pub shape_of-out : goal.shape_of-out
 shape_of-out c = c.loop-start.invariant.0
@@ -80,4 +65,4 @@ pub returns : goal.returns
 returns c =
     let l = c.loop-start in
     let a = c.args in
-    names_end a.input.now (page a.out.now 0) (page l.out l.at) l.n l.from l.to l.start l.invariant.1 c.loop-start-test.false
+    names_end a.input.now (page a.out.now 0) (page l.out l.at) l.n l.before.now l.start l.invariant.1 c.loop-start-test.false

@@ -5,7 +5,7 @@ use Rattle.choices.proofs.Choices.{choice_within}
 use Rattle.pages.specs.Page.{page}
 use native.Mathlib.Omega.{arith}
 use lib.ListN.{length}
-use Prim.Native.Nat.{◌-◌, ◌≤◌, ◌<◌}
+use Prim.Native.Nat.{◌≤◌, ◌<◌}
 use mathlib.Core.Path.{refl, ◌∙◌}
 use Rattle.lines.proofs.put_tokens.Goals as goal
 

@@ -1,6 +1,5 @@
 use Rattle.pages.proofs.Pages.{same_room, same_said}
 use Rattle.listed.proofs.Answers.{few_names, listed_long, listed_unended, listed_bad, good}
-use borrow.Author.Tests.{not-true, not-false}
 use Rattle.pages.specs.Page.{page}
 use mathlib.Core.Path.{sym, ◌∙◌}
 use Rattle.listed.proofs.put_listed.Goals as goal
@@ -18,38 +17,38 @@ returns-then-input-gt-MOST c =
 pub put_refusal-requires-then-not-all_ended : goal.put_refusal-requires-then-not-all_ended
 put_refusal-requires-then-not-all_ended c =
     let a = c.args in
-    same_room (listed_unended a.input.now c.if-input-gt-MOST.false (sym c.all_ended.ensures ∙ not-true _ c.if-not-all_ended.true-raw)) (page a.out.now 0) c.requires
+    same_room (listed_unended a.input.now c.if-input-gt-MOST.false (sym c.all_ended.ensures ∙ c.if-not-all_ended.true)) (page a.out.now 0) c.requires
 
 pub returns-then-not-all_ended : goal.returns-then-not-all_ended
 returns-then-not-all_ended c =
     let a = c.args in
-    same_said (listed_unended a.input.now c.if-input-gt-MOST.false (sym c.all_ended.ensures ∙ not-true _ c.if-not-all_ended.true-raw)) (page a.out.now 0) c.put_refusal-then-not-all_ended.ensures
+    same_said (listed_unended a.input.now c.if-input-gt-MOST.false (sym c.all_ended.ensures ∙ c.if-not-all_ended.true)) (page a.out.now 0) c.put_refusal-then-not-all_ended.ensures
 
 pub judge-requires : goal.judge-requires
 judge-requires c =
     let a = c.args in record {
       table_value = c.table-table.ensures;
-      input_value = (sym c.all_ended.ensures ∙ not-false _ c.if-not-all_ended.false-raw, few_names a.input.now c.if-input-gt-MOST.false);
+      input_value = (sym c.all_ended.ensures ∙ c.if-not-all_ended.false, few_names a.input.now c.if-input-gt-MOST.false);
     }
 
-pub put_refusal-requires-in-Bad : goal.put_refusal-requires-in-Bad
-put_refusal-requires-in-Bad c =
+pub put_refusal-requires-in-Some : goal.put_refusal-requires-in-Some
+put_refusal-requires-in-Some c =
     let a = c.args in
-    let e = sym c.all_ended.ensures ∙ not-false _ c.if-not-all_ended.false-raw in
-    same_room (listed_bad a.input.now c.if-input-gt-MOST.false e (sym c.judge.ensures ∙ c.in-Bad.is)) (page a.out.now 0) c.requires
+    let e = sym c.all_ended.ensures ∙ c.if-not-all_ended.false in
+    same_room (listed_bad a.input.now c.if-input-gt-MOST.false e (sym c.judge.ensures ∙ c.in-Some.is)) (page a.out.now 0) c.requires
 
 pub put_listing-requires : goal.put_listing-requires
 put_listing-requires c =
     let a = c.args in
-    let e = sym c.all_ended.ensures ∙ not-false _ c.if-not-all_ended.false-raw in record {
+    let e = sym c.all_ended.ensures ∙ c.if-not-all_ended.false in record {
       table_value = c.table-table.ensures;
-      good = good a.input.now c.if-input-gt-MOST.false e (sym c.judge.ensures ∙ c.in-Fine.is);
+      good = good a.input.now c.if-input-gt-MOST.false e (sym c.judge.ensures ∙ c.in-None.is);
       has_room = c.requires;
       input_len_bound = c.if-input-gt-MOST.false;
     }
 
-pub returns-in-Bad : goal.returns-in-Bad
-returns-in-Bad c =
+pub returns-in-Some : goal.returns-in-Some
+returns-in-Some c =
     let a = c.args in
-    let e = sym c.all_ended.ensures ∙ not-false _ c.if-not-all_ended.false-raw in
-    same_said (listed_bad a.input.now c.if-input-gt-MOST.false e (sym c.judge.ensures ∙ c.in-Bad.is)) (page a.out.now 0) c.put_refusal-in-Bad.ensures
+    let e = sym c.all_ended.ensures ∙ c.if-not-all_ended.false in
+    same_said (listed_bad a.input.now c.if-input-gt-MOST.false e (sym c.judge.ensures ∙ c.in-Some.is)) (page a.out.now 0) c.put_refusal-in-Some.ensures

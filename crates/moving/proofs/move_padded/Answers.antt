@@ -12,7 +12,7 @@ use Rattle.moving.proofs.move_padded.Goals as goal
 pub move_on-requires : goal.move_on-requires
 move_on-requires c =
     let f = padded_fits _ _ _ _ c.move_to.ensures c.requires.dzlen_stream_bound in record {
-      cursors_len = (search rules, (search rules, search rules));
+      cursors_len = (search rules, search rules);
       n_bound = omega arith;
     }
 

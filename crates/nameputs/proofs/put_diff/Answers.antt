@@ -12,7 +12,6 @@ use Rattle.nameputs.proofs.put_diff.Goals as goal
 pub put_head-next-requires : goal.put_head-next-requires
 put_head-next-requires c =
     let a = c.args in record {
-      stream_bound = omega arith;
       roomy = rw c.diff_number-number.ensures (roomy_append a.pass (head_puts (numbers_of a.set.kind).diff diff_stream a.distance.0) (token_puts (rules_of a.set) a.name.now 1 (choices_of a.before.now a.name.now)) (world a.total a.directory.now a.bytes.now) c.requires.roomy).0;
     }
 

@@ -16,7 +16,6 @@ pub put_head-requires : goal.put_head-requires
 put_head-requires c =
     let a = c.args in
     let e = sym c.reference_of.ensures ∙ c.in-Dup.is in record {
-      stream_bound = omega arith;
       roomy = rw c.dup_number-number.ensures (subst (λ (l : List Put). Roomy a.pass l (world a.total a.directory.now a.bytes.now)) (dup_puts (rules_of a.set) a.n a.before.now a.name.now _ e) c.requires.roomy);
     }
 

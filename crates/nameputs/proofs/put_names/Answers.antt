@@ -1,4 +1,4 @@
-use Prim.Native.Nat.{◌-◌, ◌<◌}
+use Prim.Native.Nat.{◌<◌}
 use mathlib.Core.Path.{refl, ◌∙◌}
 use native.Mathlib.Nat.{le_of_lt}
 use native.Mathlib.Omega.{arith}
@@ -18,38 +18,20 @@ pub name_end-end-requires : goal.name_end-end-requires
 name_end-end-requires c =
     (c.loop-start-test.true, c.requires.input_value.0)
 
-pub slice_bounds-put_name-count : goal.slice_bounds-put_name-count
-slice_bounds-put_name-count c =
-    c.loop-start.invariant.1.1.stands.low
-
-pub slice_bounds-put_name-start : goal.slice_bounds-put_name-start
-slice_bounds-put_name-start c =
-    c.loop-start.invariant.1.1.stands.low
-
-pub slice_bounds-put_name-end : goal.slice_bounds-put_name-end
-slice_bounds-put_name-end c =
-    c.loop-start.invariant.1.1.stands.high
-
-pub slice_bounds-put_name-count-in-loop-start : goal.slice_bounds-put_name-count-in-loop-start
-slice_bounds-put_name-count-in-loop-start c =
-    c.name_end-end.ensures.low
-
-pub slice_bounds-put_name-start-in-loop-start : goal.slice_bounds-put_name-start-in-loop-start
-slice_bounds-put_name-start-in-loop-start c =
-    c.name_end-end.ensures.low
-
-pub slice_bounds-put_name-end-in-loop-start : goal.slice_bounds-put_name-end-in-loop-start
-slice_bounds-put_name-end-in-loop-start c =
-    le_of_lt c.name_end-end.ensures.high
-
 pub put_name-total-requires : goal.put_name-total-requires
 unfolding part
 put_name-total-requires c =
     let l = c.loop-start in
     let a = c.args in record {
       table_value = c.requires.table_value;
-      roomy = names_room a.pass a.input.now (world 0 a.directory.now a.bytes.now) (world l.total l.directory l.bytes) l.n l.from l.to l.start l.invariant.1.1 _ c.name_end-end.ensures;
+      roomy = names_room a.pass a.input.now (world 0 a.directory.now a.bytes.now) (world l.total l.directory l.bytes) l.n l.before.now l.start l.invariant.1.1 _ c.name_end-end.ensures;
     }
+
+pub slice_bounds-name-start : goal.slice_bounds-name-start
+slice_bounds-name-start c = c.name_end-end.ensures.low
+
+pub slice_bounds-name-end : goal.slice_bounds-name-end
+slice_bounds-name-end c = le_of_lt c.name_end-end.ensures.high
 
 pub overflow_add-start : goal.overflow_add-start
 overflow_add-start c =
@@ -62,7 +44,7 @@ pub overflow_add-n : goal.overflow_add-n
 overflow_add-n c =
     let l = c.loop-start in
     let a = c.args in
-    let h = names_count a.input.now l.n l.from l.to l.start l.invariant.1.1.stands _ c.name_end-end.ensures in
+    let h = names_count a.input.now l.n l.start l.invariant.1.1.stands _ c.name_end-end.ensures in
     omega (arith, c.requires.input_value.1)
 
 pub loop-start-smaller : goal.loop-start-smaller
@@ -81,7 +63,7 @@ loop-start-preserved c =
       k.directory ∙ l.invariant.0,
       (
         k.bytes ∙ l.invariant.1.0,
-        names_more a.pass a.input.now (world 0 a.directory.now a.bytes.now) (world l.total l.directory l.bytes) l.n l.from l.to l.start l.invariant.1.1 _ c.name_end-end.ensures c.put_name-total.ensures,
+        names_more a.pass a.input.now (world 0 a.directory.now a.bytes.now) (world l.total l.directory l.bytes) l.n l.before.now l.start l.invariant.1.1 _ c.name_end-end.ensures c.put_name-total.ensures,
       ),
     )
 
@@ -95,4 +77,4 @@ pub returns : goal.returns
 returns c =
     let l = c.loop-start in
     let a = c.args in
-    names_end a.pass a.input.now (world 0 a.directory.now a.bytes.now) (world l.total l.directory l.bytes) l.n l.from l.to l.start l.invariant.1.1 c.loop-start-test.false
+    names_end a.pass a.input.now (world 0 a.directory.now a.bytes.now) (world l.total l.directory l.bytes) l.n l.before.now l.start l.invariant.1.1 c.loop-start-test.false

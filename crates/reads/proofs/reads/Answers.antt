@@ -1,5 +1,4 @@
 use Rattle.reads.proofs.Loops.{reads_less, reads_on, reads_out}
-use Prim.Native.Nat.{◌-◌}
 use mathlib.Core.Path.{refl, sym, ◌∙◌}
 use Rattle.reads.proofs.reads.Goals as goal
 

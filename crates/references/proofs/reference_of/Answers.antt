@@ -1,6 +1,6 @@
 use mathlib.Core.Path.{◌≡◌, refl, sym, ◌∙◌}
 use Rattle.base.proofs.Choice.{took, left}
-use Rattle.references.specs.declared.Reference.TheVariants.{Diff}
+use Rattle.distances.specs.declared.Reference.TheVariants.{Diff}
 use Rattle.references.specs.References.{reference_of}
 use Rattle.references.proofs.reference_of.Goals as goal
 

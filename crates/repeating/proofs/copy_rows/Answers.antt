@@ -15,13 +15,13 @@ row_is : (rows base : Table) (n i : ℕ) → SameRows rows base n → i < n → 
 row_is rows base n i s l e = e ∙ s i l
 
 pub row_in-r-requires : goal.row_in-r-requires
-row_in-r-requires c = let r = same_room c.loop-i.rows c.args.rows.now c.loop-i.invariant.1.1.1.0 in search rules
+row_in-r-requires c = let r = same_room c.loop-i.rows c.args.rows.now c.loop-i.invariant.numbers in search rules
 
 pub put_row-requires : goal.put_row-requires
-put_row-requires c = let r = same_room c.loop-i.rows c.args.rows.now c.loop-i.invariant.1.1.1.0 in search rules
+put_row-requires c = let r = same_room c.loop-i.rows c.args.rows.now c.loop-i.invariant.numbers in search rules
 
-pub overflow_add-k : goal.overflow_add-k
-overflow_add-k c =
+pub overflow_add-row : goal.overflow_add-row
+overflow_add-row c =
     let rows = c.args.rows.now in
     let h = room_numbers rows (row_room (in_rows rows)) (omega arith) in
     search rules
@@ -30,32 +30,23 @@ pub loop-i-preserved : goal.loop-i-preserved
 loop-i-preserved c =
     let a = c.args in let l = c.loop-i in
     let x = c.row_in-r in
-    let r = row_is _ _ _ l.i l.invariant.1.1.1.1.0 (omega arith) x.ensures in
+    let r = row_is _ _ _ l.i l.invariant.alike (omega arith) x.ensures in
     let e = ap (λ (x : Row). x.length) r in
+    let k : ℕ = a.row + (l.i - a.from) in
     let moved : List Row = moved_row x.result l.start ∷ [] in
-    let w : in_rows c.put_row.new.rows ≡ put_rows (in_rows l.rows) l.k moved = rw c.put_row.ensures in
-    let z = same_room l.rows a.rows.now l.invariant.1.1.1.0 in (
-      omega arith,
-      (
-        omega arith,
-        (
-          omega arith,
-          (
-            length_put l.rows _ l.k moved w (omega arith) ∙ l.invariant.1.1.1.0,
-            (
-              alike_more (in_rows a.rows.now) (in_rows l.rows) l.k moved a.to l.invariant.1.1.1.1.0 (omega arith) (omega arith) w,
-              (
-                λ b. omega (arith, c.requires.by_index l.i (omega arith) (omega arith), l.invariant.1.1.1.1.1.0 (omega arith)),
-                rows_turn (in_rows a.rows.now) (in_rows l.rows) l.k l.i (a.to - l.i) (a.to - (l.i + 1)) l.start (omega arith) x.result r (omega arith) w
-                    ∙ l.invariant.1.1.1.1.1.1,
-              ),
-            ),
-          ),
-        ),
-      ),
-    )
+    let w : in_rows c.put_row.new.rows ≡ put_rows (in_rows l.rows) k moved = rw c.put_row.ensures in
+    let z = same_room l.rows a.rows.now l.invariant.numbers in
+    let n : a.row + (l.i + 1 - a.from) ≡ k + 1 = omega arith in
+    record {
+      numbers = length_put l.rows _ k moved w (omega arith) ∙ l.invariant.numbers;
+      alike = alike_more (in_rows a.rows.now) (in_rows l.rows) k moved a.to l.invariant.alike (omega arith) (omega arith) w;
+      place = λ b. omega (arith, c.requires.by_index l.i (omega arith) (omega arith), l.invariant.place (omega arith));
+      puts =
+          rw n (rows_turn (in_rows a.rows.now) (in_rows l.rows) k l.i (a.to - l.i) (a.to - (l.i + 1)) l.start (omega arith) x.result r (omega arith) w
+          ∙ l.invariant.puts);
+    }
 
 pub returns : goal.returns
 returns c =
     let a = c.args in let l = c.loop-i in
-    sym (rows_over (in_rows a.rows.now) (in_rows l.rows) l.k l.i (a.to - l.i) l.start (omega arith)) ∙ l.invariant.1.1.1.1.1.1
+    sym (rows_over (in_rows a.rows.now) (in_rows l.rows) (a.row + (l.i - a.from)) l.i (a.to - l.i) l.start (omega arith)) ∙ l.invariant.puts

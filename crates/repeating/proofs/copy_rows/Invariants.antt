@@ -1,4 +1,4 @@
-use Prim.Native.Nat.{◌+◌, ◌-◌, ◌≤◌, ◌<◌}
+use Prim.Native.Nat.{◌+◌, ◌-◌, ◌<◌}
 use mathlib.Core.Path.{◌≡◌}
 use lib.ListN.{length}
 use Rattle.tables.specs.Tables.{in_rows, row_at, put_rows}
@@ -7,10 +7,9 @@ use Rattle.repeating.specs.Repeating.{moved_rows}
 use Rattle.repeating.proofs.copy_rows.Given as goal
 
 abbrev pub invariant-loop-i : goal.invariant-loop-i
-invariant-loop-i l =
-    (l.from ≤ l.i) × ((l.i ≤ l.to) × ((l.k ≡ l.row + (l.i - l.from)) × ((length l.rows ≡ length l.initial.rows) × (SameRows (in_rows l.rows) (in_rows l.initial.rows) l.to ×
-    ((l.i < l.to → l.start + (row_at (in_rows l.initial.rows) l.from).start ≡ l.at + (row_at (in_rows l.initial.rows) l.i).start) ×
-    (put_rows (in_rows l.rows) l.k (moved_rows (in_rows l.initial.rows) l.i (l.to - l.i) l.start) ≡ put_rows (in_rows l.initial.rows) l.row (moved_rows (in_rows l.initial.rows) l.from (l.to - l.from) l.at)))))))
-
-abbrev pub decreases-loop-i : goal.decreases-loop-i
-decreases-loop-i l = l.to - l.i
+invariant-loop-i l = record {
+  numbers : length l.rows ≡ length l.initial.rows;
+  alike : SameRows (in_rows l.rows) (in_rows l.initial.rows) l.to;
+  place : l.i < l.to → l.start + (row_at (in_rows l.initial.rows) l.from).start ≡ l.at + (row_at (in_rows l.initial.rows) l.i).start;
+  puts : put_rows (in_rows l.rows) (l.row + (l.i - l.from)) (moved_rows (in_rows l.initial.rows) l.i (l.to - l.i) l.start) ≡ put_rows (in_rows l.initial.rows) l.row (moved_rows (in_rows l.initial.rows) l.from (l.to - l.from) l.at);
+}

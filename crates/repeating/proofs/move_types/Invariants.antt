@@ -6,9 +6,8 @@ use Rattle.repeating.specs.Repeating.{types_past}
 use Rattle.repeating.proofs.move_types.Given as goal
 
 abbrev pub invariant-loop-i : goal.invariant-loop-i
-invariant-loop-i l =
-    (l.initial.i ≤ l.i) × ((length l.cursors ≡ length l.initial.cursors) × (((j : ℕ) → l.i ≤ j → cursor_of l.cursors (span_of j 0) ≡ cursor_of l.initial.cursors (span_of j 0)) ×
-    (types_past l.cursors l.i (l.stop - l.i) ≡ types_past l.initial.cursors l.initial.i (l.stop - l.initial.i))))
-
-abbrev pub decreases-loop-i : goal.decreases-loop-i
-decreases-loop-i l = l.stop - l.i
+invariant-loop-i l = record {
+  numbers : length l.cursors ≡ length l.initial.cursors;
+  later : (j : ℕ) → l.i ≤ j → cursor_of l.cursors (span_of j 0) ≡ cursor_of l.initial.cursors (span_of j 0);
+  moves : types_past l.cursors l.i (l.i-end - l.i) ≡ types_past l.initial.cursors l.initial.i (l.i-end - l.initial.i);
+}

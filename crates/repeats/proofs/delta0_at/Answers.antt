@@ -1,14 +1,28 @@
-use Rattle.repeats.proofs.Ways.{delta0_none, delta0_other, delta0_is}
 use borrow.Author.Rules.{rules}
+use mathlib.Core.Path.{◌≡◌, sym, ◌∙◌}
+use mathlib.Core.List.{List}
+use Prim.Native.Nat.{ℕ}
+use Rattle.std.specs.Prelude.{Ok, Err}
+use Rattle.tables.specs.Tables.{in_rows}
+use Rattle.sources.specs.Source.{source, earlier}
+use Rattle.repeats.specs.Repeats.{fitting, delta0_at}
+use Rattle.repeats.proofs.Ways.{delta0_misses, delta0_meets}
+use Rattle.numbering.specs.Types.{Rules}
 use Rattle.repeats.proofs.delta0_at.Goals as goal
+use Rattle.repeats.proofs.delta0_at.Goals.{In_ok-r, In_err-r}
 
-pub returns-then-count-at : goal.returns-then-count-at
-returns-then-count-at c = λ rules text. delta0_none _ _ _ c.if-count-at.true
-
-pub returns-then-r-ne4 : goal.returns-then-r-ne4
-returns-then-r-ne4 c = λ rules text. delta0_other _ _ _ c.if-count-at.false c.row_here-r.ensures c.if-r-ne4.true
+fits : (c : goal.In_ok-r) (text : List ℕ) → fitting (earlier text (in_rows c.args.rows.now) c.args.first c.args.count) c.args.p.0 4 ≡ Ok c.in_ok-r.r
+fits c text = let e : c.fitting.result ≡ Ok c.in_ok-r.r = search rules in sym (c.fitting.ensures text) ∙ e
 
 pub returns : goal.returns
-returns c =
+returns c = λ rules text. delta0_meets _ _ _ (fits (goal.at.returns c).In_ok-r text) (c.byte_in-found.ensures rules) c.delta0_step.ensures
+
+unfit : (c : goal.In_err-r) (text : List ℕ) → fitting (earlier text (in_rows c.args.rows.now) c.args.first c.args.count) c.args.p.0 4 ≡ Err c.in_err-r.field-0.0
+unfit c text = let e : c.fitting.result ≡ Err c.in_err-r.field-0.0 = search rules in sym (c.fitting.ensures text) ∙ e
+
+pub returns-in_err-r : goal.returns-in_err-r
+returns-in_err-r c =
+    let a = c.args in
+    let r : c.from_residual.result ≡ Err c.in_err-r.field-0.0 = search rules in
     λ rules text.
-    delta0_is _ _ _ c.if-count-at.false c.row_here-r.ensures c.if-r-ne4.false (c.byte_in-found.ensures rules) (rw c.delta0_step.ensures)
+    r ∙ delta0_misses (source rules a.bytes.now a.dir.now a.cursors.now) _ _ (unfit (goal.at.returns-in_err-r c).In_err-r text)

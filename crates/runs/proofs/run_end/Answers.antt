@@ -1,19 +1,18 @@
 use native.Mathlib.Omega.{arith}
+use Rattle.spans.specs.Spans.{Next}
 use Prim.Native.Nat.{ℕ, ◌+◌, ◌-◌}
 use mathlib.Core.Path.{◌≡◌, sym, ap, ◌∙◌}
 use mathlib.Core.Bool.{Bool}
-use Rattle.spans.specs.declared.NextByte.{NextByte}
 use Rattle.numbering.specs.declared.TokenType.{TokenType}
 use Rattle.numbering.specs.Types.{rules_of}
 use Rattle.sources.specs.Source.{Source, source, byte_in}
 use Rattle.names.specs.Names.{type_in, type_at}
 use Rattle.runs.specs.Runs.{is_match}
 use Rattle.runs.proofs.Matches.{run_over, run_stops, run_more}
-use borrow.Author.Rules.{rules}
 use Rattle.runs.proofs.run_end.Goals as goal
 
 -- what is seen at a position
-seen : (s : Source) (q : ℕ) {found : NextByte} {t : TokenType} {b : Bool} → b ≡ is_match t → t ≡ type_in s.rules.numbers found → found ≡ byte_in s q 0 → b ≡ is_match (type_at s q)
+seen : (s : Source) (q : ℕ) {found : Next} {t : TokenType} {b : Bool} → b ≡ is_match t → t ≡ type_in s.rules.numbers found → found ≡ byte_in s q 0 → b ≡ is_match (type_at s q)
 seen s q e f g = e ∙ ap is_match (f ∙ ap (type_in s.rules.numbers) g)
 
 pub returns-then-not-is_match : goal.returns-then-not-is_match

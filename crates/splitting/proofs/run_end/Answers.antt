@@ -1,32 +1,21 @@
-use Prim.Native.Nat.{◌-◌}
-use mathlib.Core.Path.{refl, sym, ◌∙◌}
-use native.Mathlib.Omega.{arith}
-use lib.ListN.{length}
-use borrow.Author.Rules.{rules}
+use Rattle.std.proofs.Common.{rules, arith, ◌≡◌, length, sym, ◌∙◌}
 use Rattle.splitting.proofs.Runs.{run_here, run_next, run_out}
 use Rattle.splitting.proofs.run_end.Goals as goal
 
-pub loop-i-init : goal.loop-i-init
-loop-i-init c = (search rules, (search rules, refl))
-
-pub class_in-requires : goal.class_in-requires
-class_in-requires c =
-    c.requires.table_value
-
-pub returns-then-class_in-class : goal.returns-then-class_in-class
-returns-then-class_in-class c =
-    let l = c.loop-i in
+pub returns-then-ne : goal.returns-then-ne
+returns-then-ne c =
     let a = c.args in
-    sym (run_here a.name.now a.class l.i (length a.name.now) (omega arith) (λ e. c.if-class_in-class.true (c.class_in.ensures ∙ e))) ∙ l.invariant.1.1
+    let n : c.class_in.result ≡ a.class → ⊥ = search rules in
+    sym (run_here a.name.now a.class c.loop-i.i (length a.name.now) c.loop-i-test.true (λ e. n (c.class_in.ensures ∙ e))) ∙ c.loop-i.invariant
 
 pub loop-i-preserved : goal.loop-i-preserved
 loop-i-preserved c =
-    let l = c.loop-i in
     let a = c.args in
-    (search rules, (search rules, run_next a.name.now a.class l.i (length a.name.now) (omega arith) (sym c.class_in.ensures ∙ c.if-class_in-class.false) ∙ l.invariant.1.1))
+    let e : c.class_in.result ≡ a.class = search rules in
+    run_next a.name.now a.class c.loop-i.i (length a.name.now) c.loop-i-test.true (sym c.class_in.ensures ∙ e) ∙ c.loop-i.invariant
 
 pub returns : goal.returns
 returns c =
-    let l = c.loop-i in
     let a = c.args in
-    sym (run_out a.name.now a.class l.i (length a.name.now) (omega arith)) ∙ l.invariant.1.1
+    let e : c.loop-i.i ≡ length a.name.now = omega arith in
+    sym e ∙ sym (run_out a.name.now a.class c.loop-i.i (length a.name.now) (omega arith)) ∙ c.loop-i.invariant

@@ -1,13 +1,20 @@
+use borrow.Author.Rules.{rules}
+use mathlib.Core.Path.{◌≡◌}
+use Rattle.std.specs.Prelude.{Some}
 use Rattle.sums.proofs.Ways.{sum_fits, sum_long}
 use Rattle.sums.specs.Sums.{delta_step}
 use Rattle.sums.proofs.delta_step.Goals as goal
+use Rattle.sums.proofs.delta_step.Goals.{In_ok-d}
 
-pub returns-then-sum-lt4294967296 : goal.returns-then-sum-lt4294967296
-returns-then-sum-lt4294967296 c = rw c.in-Value.is (sum_fits _ _ _ c.if-sum-lt4294967296.true)
+found : (c : goal.In_ok-d) → c.args.found ≡ Some (c.in_ok-d.d, c.in_ok-d.c)
+found c = search rules
 
-pub returns-else-sum-lt4294967296 : goal.returns-else-sum-lt4294967296
-returns-else-sum-lt4294967296 c = rw c.in-Value.is (sum_long _ _ _ c.if-sum-lt4294967296.false)
+pub returns-then-sum-ge4294967296 : goal.returns-then-sum-ge4294967296
+returns-then-sum-ge4294967296 c = let f = found (goal.at.returns-then-sum-ge4294967296 c).In_ok-d in rw f (sum_long _ _ _ c.if-sum-ge4294967296.true)
 
-pub returns-in-Short : goal.returns-in-Short
+pub returns : goal.returns
+returns c = let f = found (goal.at.returns c).In_ok-d in rw f (sum_fits _ _ _ c.if-sum-ge4294967296.false)
+
+pub returns-in_err-d : goal.returns-in_err-d
 unfolding delta_step
-returns-in-Short c = rw c.in-Short.is
+returns-in_err-d c = search rules

@@ -11,16 +11,14 @@ put-next-requires c =
     let a = c.args in
     first_room string_word (part a.name.now a.from a.to) (page a.out.now a.at) c.requires.has_room
 
-pub put_part-requires : goal.put_part-requires
-unfolding string_text string_word
-put_part-requires c =
-    let a = c.args in record {
-      from_le_to = c.requires.from_le_to;
-      has_room = next_room string_word (part a.name.now a.from a.to) (page a.out.now a.at) c.requires.has_room c.put-next.ensures;
-    }
+pub put-requires : goal.put-requires
+unfolding string_text string_word part
+put-requires c =
+    let a = c.args in
+    next_room string_word (part a.name.now a.from a.to) (page a.out.now a.at) c.requires.has_room c.put-next.ensures
 
 pub returns : goal.returns
-unfolding string_text string_word
+unfolding string_text string_word part
 returns c =
     let a = c.args in
-    said_next string_word (part a.name.now a.from a.to) (page a.out.now a.at) c.requires.has_room c.put-next.ensures c.put_part.ensures
+    said_next string_word (part a.name.now a.from a.to) (page a.out.now a.at) c.requires.has_room c.put-next.ensures c.put.ensures

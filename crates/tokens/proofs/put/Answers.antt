@@ -12,9 +12,9 @@ put_text-requires c =
       start_in_bounds = rw e at c.requires.t_in_bounds;
     }
 
-pub put_byte-requires : goal.put_byte-requires
+pub put-requires : goal.put-requires
 unfolding length_of
-put_byte-requires c =
+put-requires c =
     rw c.in-Char.is at c.requires.t_in_bounds
 
 pub print-requires : goal.print-requires
@@ -44,7 +44,7 @@ unfolding bytes_of length_of
 returns-in-Char c =
     let e = c.in-Char.is in record {
       value = rw e;
-      text_value = rw e c.put_byte.ensures;
+      text_value = rw e c.put.ensures;
     }
 
 pub returns-in-Digits : goal.returns-in-Digits

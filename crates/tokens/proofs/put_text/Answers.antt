@@ -1,14 +1,18 @@
 use Rattle.base.specs.Choice.{pick}
+use Rattle.base.specs.Memory.{part}
+use native.Mathlib.Omega.{arith}
+use lib.ListN.{length}
 use Rattle.tokens.proofs.put_text.Goals as goal
 
 pub copy_within-requires : goal.copy_within-requires
 copy_within-requires c =
     (c.requires.start_le_end.0, (c.requires.end_le_at c.if-t.true, c.requires.start_in_bounds))
 
-pub copy_at-requires : goal.copy_at-requires
+pub slice_bounds-put_all-end : goal.slice_bounds-put_all-end
 unfolding pick
-copy_at-requires c =
-    (c.requires.start_le_end.0, (rw c.if-t.false at c.requires.start_le_end.1, c.requires.start_in_bounds))
+slice_bounds-put_all-end c =
+    let e = rw c.if-t.false at c.requires.start_le_end.1 in
+    omega arith
 
 pub returns-then-t : goal.returns-then-t
 unfolding pick
@@ -16,6 +20,6 @@ returns-then-t c =
     rw c.if-t.true c.copy_within.ensures
 
 pub returns-else-t : goal.returns-else-t
-unfolding pick
+unfolding pick part
 returns-else-t c =
-    rw c.if-t.false c.copy_at.ensures
+    rw c.if-t.false c.put_all.ensures

@@ -1,23 +1,24 @@
 use Rattle.base.specs.Choice.{pick}
+use Rattle.base.specs.Memory.{part}
 use native.Mathlib.Omega.{arith}
 use Rattle.tokens.proofs.text_allowed.Goals as goal
 
-pub all_allowed-requires : goal.all_allowed-requires
-unfolding pick
-all_allowed-requires c =
-    let e = rw c.if-t.true at c.requires.1 in
-    omega arith
-
-pub all_allowed-requires-else-t : goal.all_allowed-requires-else-t
-unfolding pick
-all_allowed-requires-else-t c =
-    let e = rw c.if-t.false at c.requires.1 in
-    omega arith
-
 pub returns-then-t : goal.returns-then-t
-unfolding pick
+unfolding pick part
 returns-then-t c = rw (c.if-t.true, c.all_allowed.ensures)
 
 pub returns-else-t : goal.returns-else-t
-unfolding pick
+unfolding pick part
 returns-else-t c = rw (c.if-t.false, c.all_allowed-else-t.ensures)
+
+pub slice_bounds-all_allowed-end : goal.slice_bounds-all_allowed-end
+unfolding pick
+slice_bounds-all_allowed-end c =
+    let e = rw c.if-t.true at c.requires.1 in
+    omega arith
+
+pub slice_bounds-all_allowed-end-else-t : goal.slice_bounds-all_allowed-end-else-t
+unfolding pick
+slice_bounds-all_allowed-end-else-t c =
+    let e = rw c.if-t.false at c.requires.1 in
+    omega arith

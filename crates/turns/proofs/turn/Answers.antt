@@ -1,6 +1,7 @@
 use native.Mathlib.Omega.{arith}
 use Prim.Native.Nat.{◌^◌}
-use mathlib.Core.Path.{sym, ap, ◌∙◌}
+use Rattle.std.specs.Prelude.{Ok, Err}
+use mathlib.Core.Path.{◌≡◌, sym, ap, ◌∙◌}
 use Rattle.base.specs.Every.{Below}
 use Rattle.sources.specs.Source.{source, earlier}
 use Rattle.steps.proofs.Laws.{Known}
@@ -19,7 +20,7 @@ take-requires c =
     let s = source (rules_of a.set) a.bytes.now a.dir.now a.cursors.now in
     let e = earlier a.text.now (in_rows a.rows.now) a.first a.count in
     let f = c.byte_in-found.ensures s.rules in
-    let q = sym (step_of s e a.at.p.0 f c.typed_step.ensures) ∙ c.in-Got.is in
+    let q = sym (step_of s e a.at.p.0 f c.typed_step.ensures) ∙ c.in_ok-t.was ∙ ap Ok c.in-Some.is in
     let d : Below (2 ^ 32) s.dir = λ i. omega (arith, c.type_inv.dir i) in
     let k : Known s e a.at.used a.at.p.0 =
     record {
@@ -37,36 +38,37 @@ take-requires c =
       keepable_at = λ h. token_keeps s e a.at k d _ _ q f (c.requires.room_at h);
     }
 
-pub returns-in-Got : goal.returns-in-Got
-returns-in-Got c =
+pub returns-in-Some : goal.returns-in-Some
+returns-in-Some c =
     let a = c.args in
     let s = source (rules_of a.set) a.bytes.now a.dir.now a.cursors.now in
     let e = earlier a.text.now (in_rows a.rows.now) a.first a.count in
     let f = c.byte_in-found.ensures s.rules in
-    let q = sym (step_of s e a.at.p.0 f c.typed_step.ensures) ∙ c.in-Got.is in let x = c.take.ensures in
+    let q = sym (step_of s e a.at.p.0 f c.typed_step.ensures) ∙ c.in_ok-t.was ∙ ap Ok c.in-Some.is in let x = c.take.ensures in
     record {
       value = turn_got _ _ _ _ q x.value;
       cursors_value = turn_puts _ _ _ _ q (ap (type_in s.rules.numbers) f) x.cursors_value;
     }
 
-pub returns-in-End : goal.returns-in-End
-returns-in-End c =
+pub returns-in-None : goal.returns-in-None
+returns-in-None c =
     let a = c.args in
     let s = source (rules_of a.set) a.bytes.now a.dir.now a.cursors.now in
     let e = earlier a.text.now (in_rows a.rows.now) a.first a.count in
-    let q = sym (step_of s e a.at.p.0 (c.byte_in-found.ensures s.rules) c.typed_step.ensures) ∙ c.in-End.is in
+    let q = sym (step_of s e a.at.p.0 (c.byte_in-found.ensures s.rules) c.typed_step.ensures) ∙ c.in_ok-t.was ∙ ap Ok c.in-None.is in
     record {
       value = turn_ends _ _ _ _ q;
       cursors_value = end_leaves _ _ _ _ _ q;
     }
 
-pub returns-in-Refused : goal.returns-in-Refused
-returns-in-Refused c =
+pub returns-in_err-t : goal.returns-in_err-t
+returns-in_err-t c =
     let a = c.args in
     let s = source (rules_of a.set) a.bytes.now a.dir.now a.cursors.now in
     let e = earlier a.text.now (in_rows a.rows.now) a.first a.count in
-    let q = sym (step_of s e a.at.p.0 (c.byte_in-found.ensures s.rules) c.typed_step.ensures) ∙ c.in-Refused.is in
+    let q = sym (step_of s e a.at.p.0 (c.byte_in-found.ensures s.rules) c.typed_step.ensures) ∙ c.in_err-t.was in
+    let r : c.from_residual.result ≡ Err c.in_err-t.field-0.0 = search rules in
     record {
-      value = turn_refuses _ _ _ _ q;
+      value = r ∙ turn_refuses _ _ _ _ q;
       cursors_value = refusal_leaves _ _ _ _ _ q;
     }

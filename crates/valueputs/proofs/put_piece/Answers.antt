@@ -1,4 +1,8 @@
-use mathlib.Core.Path.{subst, sym}
+use mathlib.Core.Path.{◌≡◌, subst, sym}
+use Prim.Native.Nat.{◌-◌}
+use lib.ListN.{length}
+use Rattle.base.specs.Memory.{part}
+use Rattle.base.proofs.Memory.{length_part}
 use Rattle.block.specs.Block.{span_of}
 use Rattle.block.specs.Streams.{dzlen_stream}
 use Rattle.laying.specs.Passes.{World, world, Room}
@@ -6,13 +10,13 @@ use Rattle.valueputs.proofs.Laws.{string_room, char_room, digits_room, digits0_r
 use Rattle.valueputs.proofs.put_piece.Goals as goal
 
 pub put_text-requires : goal.put_text-requires
+unfolding part
 put_text-requires c =
     let a = c.args in
     let g = c.in-String.is in
-    let w = rw g at c.requires.p_bound.1 in record {
-      from_le_to = w;
-      room = rw c.span_of-span.ensures (string_room a.pass a.name.now a.p.0 a.t (world a.total a.directory.now a.bytes.now) c.requires.roomy g w.0 w.1);
-    }
+    let w = rw g at c.requires.p_bound.1 in
+    let l : length (part a.name.now c.in-String.start c.in-String.end) ≡ c.in-String.end - c.in-String.start = length_part a.name.now c.in-String.start c.in-String.end w.0 w.1 in
+    rw (l, c.span_of-span.ensures) (string_room a.pass a.name.now a.p.0 a.t (world a.total a.directory.now a.bytes.now) c.requires.roomy g w.0 w.1)
 
 pub put_byte-requires : goal.put_byte-requires
 put_byte-requires c =
@@ -42,6 +46,7 @@ put_byte-requires-in-Digits0 c =
     (subst (λ (w : World). Room a.pass (span_of a.p.0 dzlen_stream) 1 w) (sym d) (digits0_room a.pass a.name.now a.p.0 a.t (world a.total a.directory.now a.bytes.now) c.requires.roomy c.in-Digits0.is).1)
 
 pub returns-in-String : goal.returns-in-String
+unfolding part
 returns-in-String c =
     let a = c.args in
     string_ran a.pass a.name.now a.p.0 a.t (world a.total a.directory.now a.bytes.now) _ c.in-String.is (rw (← c.span_of-span.ensures) c.put_text.ensures)

@@ -1,10 +1,11 @@
+use borrow.Author.Rules.{rules}
 use Rattle.values.specs.Values.{char_step}
 use Rattle.values.proofs.char_step.Goals as goal
 
-pub returns-in-Value : goal.returns-in-Value
+pub returns-in_err-b : goal.returns-in_err-b
 unfolding char_step
-returns-in-Value c = rw c.in-Value.is
+returns-in_err-b c = search rules
 
-pub returns-in-Short : goal.returns-in-Short
+pub returns : goal.returns
 unfolding char_step
-returns-in-Short c = rw c.in-Short.is
+returns c = search rules

@@ -1,10 +1,11 @@
+use borrow.Author.Rules.{rules}
 use Rattle.values.specs.Values.{digits0_step}
 use Rattle.values.proofs.digits0_step.Goals as goal
 
-pub returns-in-Value : goal.returns-in-Value
+pub returns-in_err-x : goal.returns-in_err-x
 unfolding digits0_step
-returns-in-Value c = rw c.in-Value.is c.padded_step.ensures
+returns-in_err-x c = search rules
 
-pub returns-in-Short : goal.returns-in-Short
+pub returns : goal.returns
 unfolding digits0_step
-returns-in-Short c = rw c.in-Short.is
+returns c = search rules

@@ -1,10 +1,11 @@
+use borrow.Author.Rules.{rules}
 use Rattle.values.specs.Values.{digits_step}
 use Rattle.values.proofs.digits_step.Goals as goal
 
-pub returns-in-Value : goal.returns-in-Value
+pub returns-in_err-n : goal.returns-in_err-n
 unfolding digits_step
-returns-in-Value c = rw c.in-Value.is
+returns-in_err-n c = search rules
 
-pub returns-in-Short : goal.returns-in-Short
+pub returns : goal.returns
 unfolding digits_step
-returns-in-Short c = rw c.in-Short.is
+returns c = search rules

@@ -1,10 +1,11 @@
+use borrow.Author.Rules.{rules}
 use Rattle.values.specs.Values.{padded_of}
 use Rattle.values.proofs.padded_of.Goals as goal
 
-pub returns-in-Value : goal.returns-in-Value
+pub returns-in_err-number : goal.returns-in_err-number
 unfolding padded_of
-returns-in-Value c = rw c.in-Value.is c.with_width.ensures
+returns-in_err-number c = search rules
 
-pub returns-in-Short : goal.returns-in-Short
+pub returns : goal.returns
 unfolding padded_of
-returns-in-Short c = rw c.in-Short.is
+returns c = search rules

@@ -3,10 +3,10 @@ use Rattle.base.specs.Choice.{pick}
 use Rattle.values.specs.Values.{padded_step}
 use Rattle.values.proofs.padded_step.Goals as goal
 
-pub returns-then-fits_width : goal.returns-then-fits_width
+pub returns-then-not-fits_width : goal.returns-then-not-fits_width
 unfolding padded_step pick
-returns-then-fits_width c = rw (sym c.fits_width.ensures ∙ c.if-fits_width.true)
+returns-then-not-fits_width c = rw (sym c.fits_width.ensures ∙ c.if-not-fits_width.true)
 
-pub returns-else-fits_width : goal.returns-else-fits_width
+pub returns : goal.returns
 unfolding padded_step pick
-returns-else-fits_width c = rw (sym c.fits_width.ensures ∙ c.if-fits_width.false)
+returns c = rw (sym c.fits_width.ensures ∙ c.if-not-fits_width.false)

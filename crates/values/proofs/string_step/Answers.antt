@@ -1,10 +1,11 @@
+use borrow.Author.Rules.{rules}
 use Rattle.values.specs.Values.{string_step}
 use Rattle.values.proofs.string_step.Goals as goal
 
-pub returns-in-Bytes : goal.returns-in-Bytes
+pub returns-in_err-text : goal.returns-in_err-text
 unfolding string_step
-returns-in-Bytes c = rw c.in-Bytes.is
+returns-in_err-text c = search rules
 
-pub returns-in-Unended : goal.returns-in-Unended
+pub returns : goal.returns
 unfolding string_step
-returns-in-Unended c = rw c.in-Unended.is
+returns c = search rules

@@ -1,11 +1,11 @@
+use borrow.Author.Rules.{rules}
 use Rattle.values.specs.Values.{with_width}
 use Rattle.values.proofs.with_width.Goals as goal
 
-pub returns-in-Value : goal.returns-in-Value
+pub returns-in_err-w : goal.returns-in_err-w
 unfolding with_width
-returns-in-Value c =
-    rw c.in-Value.is
+returns-in_err-w c = search rules
 
-pub returns-in-Short : goal.returns-in-Short
+pub returns : goal.returns
 unfolding with_width
-returns-in-Short c = rw c.in-Short.is
+returns c = search rules
