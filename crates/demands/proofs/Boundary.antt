@@ -3,21 +3,24 @@
 use Prim.Native.Nat.{ℕ, ◌^◌, ◌≤◌, ◌<◌}
 use Rattle.entries.specs.Entries.{Answer}
 use Rattle.claims.specs.Claims.{Claimed}
+use Rattle.claims.specs.declared.Verdict.{Verdict}
+use Rattle.claims.specs.declared.Verdict.TheVariants as verdict
 use Rattle.writing.specs.Writes.{WriteAnswer}
-use Rattle.std.specs.Option.{unwrap_or}
-use Rattle.std.specs.Prelude.{Option, Some, Ok, Err}
+use Rattle.std.specs.Prelude.{Option, Some, None, Result, Ok, Err, cond, option_map}
 use Rattle.refusals.specs.declared.Reason.{Reason}
-use Rattle.refusals.specs.Refusals.{number_of}
+use Rattle.refusals.specs.Refusals.{number_of, among, reason_of}
 use Rattle.refusals.proofs.Laws.{reason_back, one_reason, number_between}
 use Rattle.refusals.specs.declared.Reason.TheVariants as reason
 use mathlib.Core.Path.{◌≡◌, refl, sym, ap, ◌∙◌, subst}
+use mathlib.Core.Bool.{Bool, true, false}
 use mathlib.Core.List.{List, [], ◌∷◌}
 use mathlib.Core.Logic.{◌⊎◌, inl, inr, ⊎_elim}
 use native.Mathlib.Omega.{arith}
-use borrow.Author.Tests.{eq-eqb, ne_eqb}
+use borrow.Author.Tests.{eq-eqb, eqb-true, ne_eqb}
 use lib.Dec.{eqb}
-use lib.ListN.{length, replicate}
+use lib.ListN.{length, get_or, replicate}
 use Rattle.comparing.specs.Same.{same}
+use Rattle.base.specs.Choice.{pick}
 use Rattle.base.proofs.Choice as choice
 use Rattle.base.proofs.Choice.{by_test}
 use Rattle.comparing.proofs.Equal.{same_equal, differ_same}
@@ -50,7 +53,7 @@ use Rattle.demands.specs.Runs.{Lent, lent, read, left, Fresh, Keeps, Call, readi
 use Rattle.demands.specs.Refusals as cases
 use Rattle.demands.specs.Refusals.{OpenCase, WriteCase, Why, ReadCase, refuses, ends, keeps}
 use Rattle.demands.specs.Right.{Judged, Sane, left_over, by_rules, Demand3}
-use Rattle.demands.specs.Boundary.{IsCode, Stopped, StateBack, OpenCallStopped, OpenCallStops, ReadCallStopped, ReadCallStops, WriteCallStopped, WriteCallStops, BlockCallStopped, NumberTells, SameAnswer, told_reason, told_refusal, told_read, told_opening, told_verdict, told_writing, OpeningTold, ReadTold, BlockTold, VerdictTold, WritingTold, begun, lent_from, call_on, calls_on, KeepCalls, no_call, next_call, WholeCall, BlockCallReads, StopSays, says_done, says_left_over, says_by_rules, Faultless, BlockSays, BlockCallSays, ReadCallSays, claim_on, JudgedCall, Demand3Call, EachCall, CallsDemand3, BlockCallsDemand3, CallsEach, BlockCallsEach, AfreshCall, OneOpenCall, OneReadCall, OneBlockCall, OneClaimCall, OneWriteCall}
+use Rattle.demands.specs.Boundary.{IsCode, Stopped, StateBack, OpenCallStopped, OpenCallStops, ReadCallStopped, ReadCallStops, WriteCallStopped, WriteCallStops, BlockCallStopped, NumberTells, SameAnswer, refused_with, told_refusal, told_read, told_opening, told_verdict, told_writing, OneNumber, ToldApart, NeverDone, OpeningApart, ReadApart, VerdictApart, WritingApart, OpeningTold, ReadTold, BlockTold, VerdictTold, WritingTold, begun, lent_from, call_on, calls_on, KeepCalls, no_call, next_call, WholeCall, BlockCallReads, StopSays, says_done, says_left_over, says_by_rules, Faultless, BlockSays, BlockCallSays, ReadCallSays, claim_on, JudgedCall, Demand3Call, EachCall, CallsDemand3, BlockCallsDemand3, CallsEach, BlockCallsEach, AfreshCall, OneOpenCall, OneReadCall, OneBlockCall, OneClaimCall, OneWriteCall}
 use Rattle.demands.specs.Untouched.{Whole}
 use Rattle.demands.proofs.Lemmas.Ways.{read_case}
 use Rattle.demands.proofs.Refusals.{open_case, write_case}
@@ -83,44 +86,234 @@ unfolding refusal_number
 refusal_stopped (refusal.Plain r) = numbered r no_name
 refusal_stopped (refusal.At r n) = numbered r n
 
+-- What a code tells, and of which answer
+
+by_pick : {A P : Type 0} (b : Bool) (x y : A) {r : A} → r ≡ pick b x y → (b ≡ true → r ≡ x → P) → (r ≡ y → P) → P
+unfolding pick
+by_pick true x y e f g = f refl e
+by_pick false x y e f g = g e
+
+some_is : {A : Type 0} {x y : A} → Some x ≡ Some y → x ≡ y
+some_is e = cc
+
+mapped : {A B P : Type 0} (f : A → B) (o : Option A) (y : B) → Some y ≡ option_map f o → ((x : A) → o ≡ Some x → y ≡ f x → P) → P
+mapped f None y e g = absurd (let z : Some y ≡ None = e in cc)
+mapped f (Some x) y e g = g x refl (some_is e)
+
+-- the reason that a list has for a number has that number
+among_at : {P : Type 0} (b : Bool) (t : Reason) (o : Option Reason) {r : Reason} → cond b (Some t) o ≡ Some r → (b ≡ true → t ≡ r → P) → (o ≡ Some r → P) → P
+among_at true t o e f g = f refl (some_is e)
+among_at false t o e f g = g e
+
+among_number : (rs : List Reason) (n : ℕ) (r : Reason) → among rs n ≡ Some r → number_of r ≡ n
+unfolding among
+among_number [] n r e = absurd (let z : None ≡ Some r = e in cc)
+among_number (t ∷ rs) n r e =
+    among_at (eqb n (number_of t)) t (among rs n) e
+    (λ b q. ap (λ (x : Reason). number_of x) (sym q) ∙ sym (eqb-true n (number_of t) b))
+    (λ q. among_number rs n r q)
+
+pub reason_number : (n : ℕ) (r : Reason) → reason_of n ≡ Some r → number_of r ≡ n
+unfolding reason_of
+reason_number n r e = among_number _ n r e
+
+-- nothing has the code 256 but what is done
+pub no_refusal : (v : ℕ) → told_refusal 256 v ≡ None
+unfolding told_refusal reason_of among
+no_refusal v = refl
+
+never_done_opening : (count : ℕ) → NeverDone (told_opening count)
+unfolding told_opening pick
+never_done_opening count value = cc (no_refusal value)
+
+never_done_verdict : NeverDone told_verdict
+unfolding told_verdict pick
+never_done_verdict value = cc (no_refusal value)
+
+never_done_writing : (totals : List ℕ) → NeverDone (told_writing totals)
+unfolding told_writing pick
+never_done_writing totals value = cc (no_refusal value)
+
+-- the reason of a refusal and its value, as they were told
+abbrev reason_in : Refusal → Reason
+reason_in (refusal.Plain r) = r
+reason_in (refusal.At r n) = r
+
+abbrev value_in : Refusal → ℕ
+value_in (refusal.Plain r) = no_name
+value_in (refusal.At r n) = n
+
+reason_with : (r : Reason) (v : ℕ) → reason_in (refused_with r v) ≡ r
+unfolding refused_with
+reason_with r v =
+    choice.pick_either (λ (q : Refusal). reason_in q ≡ r) (eqb (number_of r) 11) (refusal.At r v) (pick (eqb v no_name) (refusal.Plain r) (refusal.At r v)) refl
+    (choice.pick_either (λ (q : Refusal). reason_in q ≡ r) (eqb v no_name) (refusal.Plain r) (refusal.At r v) refl refl)
+
+value_with : (r : Reason) (v : ℕ) → value_in (refused_with r v) ≡ v
+unfolding refused_with
+value_with r v =
+    choice.pick_either (λ (q : Refusal). value_in q ≡ v) (eqb (number_of r) 11) (refusal.At r v) (pick (eqb v no_name) (refusal.Plain r) (refusal.At r v)) refl
+    (choice.pick_holds (λ (q : Refusal). value_in q ≡ v) (eqb v no_name) (refusal.Plain r) (refusal.At r v) (λ t. sym (eqb-true v no_name t)) (λ t. refl))
+
+told_by : (c v : ℕ) (q : Refusal) → Some q ≡ told_refusal c v → (number_of (reason_in q) ≡ c) × (value_in q ≡ v)
+unfolding told_refusal
+told_by c v q e =
+    mapped (λ (r : Reason). refused_with r v) (reason_of c) q e
+    (λ r f g. (ap (λ (x : Refusal). number_of (reason_in x)) g ∙ ap (λ (x : Reason). number_of x) (reason_with r v) ∙ reason_number c r f, ap (λ (x : Refusal). value_in x) g ∙ value_with r v))
+
+refused : {A P : Type 0} (c v : ℕ) (a : Result A Refusal) → Some a ≡ option_map Err (told_refusal c v)
+    → ((q : Refusal) → number_of (reason_in q) ≡ c → value_in q ≡ v → a ≡ Err q → P) → P
+refused c v a e g = mapped Err (told_refusal c v) a e (λ q i j. let b = told_by c v q (sym i) in g q b.0 b.1 j)
+
+-- code 0 tells an answer that is no refusal, any other a refusal
+parts : {A P : Type 0} (x : A) (c v : ℕ) (a : Result A Refusal) → Some a ≡ pick (eqb c 0) (Some (Ok x)) (option_map Err (told_refusal c v))
+    → (c ≡ 0 → a ≡ Ok x → P) → ((q : Refusal) → number_of (reason_in q) ≡ c → value_in q ≡ v → a ≡ Err q → P) → P
+parts x c v a e f g = by_pick (eqb c 0) (Some (Ok x)) (option_map Err (told_refusal c v)) e (λ t h. f (eqb-true c 0 t) (some_is h)) (λ h. refused c v a h g)
+
+abbrev code_in : {A : Type 0} → Result A Refusal → ℕ
+code_in (Ok x) = 0
+code_in (Err q) = number_of (reason_in q)
+
+abbrev refused_value : {A : Type 0} → Result A Refusal → ℕ
+refused_value (Ok x) = 0
+refused_value (Err q) = value_in q
+
+ok_is : {A : Type 0} {x y : A} → ◌≡◌ {A = Result A Refusal} (Ok x) (Ok y) → x ≡ y
+ok_is e = cc
+
+err_ok : {A P : Type 0} {q : Refusal} {x : A} → ◌≡◌ {A = Result A Refusal} (Err q) (Ok x) → P
+err_ok e = absurd cc
+
+module _ {A : Type 0} (told : ℕ → ℕ → Option (Result A Refusal)) (ok : ℕ → A)
+    (is : (c v : ℕ) → told c v ≡ pick (eqb c 0) (Some (Ok (ok v))) (option_map Err (told_refusal c v))) where
+  coded : (c v : ℕ) (a : Result A Refusal) → Some a ≡ told c v → code_in a ≡ c
+  coded c v a e = parts (ok v) c v a (e ∙ is c v) (λ z h. ap (λ (x : Result A Refusal). code_in x) h ∙ sym z) (λ q n w h. ap (λ (x : Result A Refusal). code_in x) h ∙ n)
+
+  valued : (c v : ℕ) (q : Refusal) → Some (Err q) ≡ told c v → value_in q ≡ v
+  valued c v q e = parts (ok v) c v (Err q) (e ∙ is c v) (λ z h. err_ok h) (λ p n w h. ap (λ (x : Result A Refusal). refused_value x) h ∙ w)
+
+  pub apart : ToldApart told
+  apart = record {
+    known = λ c v a e. parts (ok v) c v a (e ∙ is c v) (λ z h. inl z) (λ q n w h. inr (inr (reason_in q, n)));
+    one_code = λ c v d w a e f. sym (coded c v a e) ∙ coded d w a f;
+    one_refusal = λ q c v d w e f. (sym (coded c v (Err q) e) ∙ coded d w (Err q) f, sym (valued c v q e) ∙ valued d w q f);
+  }
+
+pub opening_apart : OpeningApart
+unfolding told_opening
+opening_apart count = (apart (told_opening count) (λ v. state count 0 0 0) (λ c v. refl), never_done_opening count)
+
+confirmed_value : (c v : ℕ) → Some (Ok verdict.Confirmed) ≡ told_verdict c v → 1 ≡ v
+unfolding told_verdict
+confirmed_value c v e =
+    parts (pick (eqb v 1) verdict.Confirmed verdict.Denied) c v (Ok verdict.Confirmed) e
+    (λ z h. by_pick (eqb v 1) verdict.Confirmed verdict.Denied (ok_is h) (λ t i. sym (eqb-true v 1 t)) (λ i. absurd (let k : verdict.Confirmed ≡ verdict.Denied = i in cc)))
+    (λ q n w h. err_ok (sym h))
+
+pub verdict_apart : VerdictApart
+unfolding told_verdict
+verdict_apart =
+    let t : ToldApart told_verdict = apart told_verdict (λ v. pick (eqb v 1) verdict.Confirmed verdict.Denied) (λ c v. refl) in
+    (t, (never_done_verdict, λ c v d w e f. (t.one_code c v d w (Ok verdict.Confirmed) e f, sym (confirmed_value c v e) ∙ confirmed_value d w f)))
+
+abbrev written_value : WriteAnswer → ℕ
+written_value (Ok w) = w.bytes
+written_value (Err q) = value_in q
+
+written_valued : (totals : List ℕ) (c v : ℕ) (a : WriteAnswer) → Some a ≡ told_writing totals c v → written_value a ≡ v
+unfolding told_writing
+written_valued totals c v a e =
+    parts (record { names = get_or totals 0 0; bytes = v }) c v a e
+    (λ z h. ap (λ (x : WriteAnswer). written_value x) h) (λ q n w h. ap (λ (x : WriteAnswer). written_value x) h ∙ w)
+
+pub writing_apart : WritingApart
+unfolding told_writing
+writing_apart totals =
+    let t : ToldApart (told_writing totals) = apart (told_writing totals) (λ v. record { names = get_or totals 0 0; bytes = v }) (λ c v. refl) in
+    (t, (never_done_writing totals, λ a c v d w e f. (t.one_code c v d w a e f, sym (written_valued totals c v a e) ∙ written_valued totals d w a f)))
+
+-- a read's 256 is an answer too, which has any value
+read_parts : {P : Type 0} (c v : ℕ) (a : Answer) → Some a ≡ told_read c v → (c ≡ 0 → a ≡ Ok (Some v) → P) → (c ≡ 256 → a ≡ Ok None → P)
+    → ((q : Refusal) → number_of (reason_in q) ≡ c → value_in q ≡ v → a ≡ Err q → P) → P
+unfolding told_read
+read_parts c v a e f g h =
+    by_pick (eqb c 0) (Some (Ok (Some v))) (pick (eqb c 256) (Some (Ok None)) (option_map Err (told_refusal c v))) e
+    (λ t i. f (eqb-true c 0 t) (some_is i))
+    (λ i. by_pick (eqb c 256) (Some (Ok None)) (option_map Err (told_refusal c v)) i (λ t j. g (eqb-true c 256 t) (some_is j)) (λ j. refused c v a j h))
+
+abbrev read_code : Answer → ℕ
+read_code (Ok (Some n)) = 0
+read_code (Ok None) = 256
+read_code (Err q) = number_of (reason_in q)
+
+abbrev read_value : Answer → ℕ
+read_value (Ok (Some n)) = n
+read_value (Ok None) = 0
+read_value (Err q) = value_in q
+
+read_coded : (c v : ℕ) (a : Answer) → Some a ≡ told_read c v → read_code a ≡ c
+read_coded c v a e =
+    read_parts c v a e (λ z h. ap (λ (x : Answer). read_code x) h ∙ sym z) (λ z h. ap (λ (x : Answer). read_code x) h ∙ sym z) (λ q n w h. ap (λ (x : Answer). read_code x) h ∙ n)
+
+read_valued : (c v : ℕ) (a : Answer) → (a ≡ Ok None → ⊥) → Some a ≡ told_read c v → read_value a ≡ v
+read_valued c v a k e =
+    read_parts c v a e (λ z h. ap (λ (x : Answer). read_value x) h) (λ z h. absurd (k h)) (λ q n w h. ap (λ (x : Answer). read_value x) h ∙ w)
+
+read_one : (a : Answer) → (a ≡ Ok None → ⊥) → OneNumber told_read a
+read_one a k c v d w e f = (sym (read_coded c v a e) ∙ read_coded d w a f, sym (read_valued c v a k e) ∙ read_valued d w a k f)
+
+pub read_apart : ReadApart
+read_apart = (
+  record {
+    known = λ c v a e. read_parts c v a e (λ z h. inl z) (λ z h. inr (inl z)) (λ q n w h. inr (inr (reason_in q, n)));
+    one_code = λ c v d w a e f. sym (read_coded c v a e) ∙ read_coded d w a f;
+    one_refusal = λ q. read_one (Err q) (λ z. cc);
+  },
+  λ n. read_one (Ok (Some n)) (λ z. cc),
+)
+
 -- What a number tells
 
-pub tells_of : {A : Type 0} (told : ℕ → ℕ → A) {a : A} (code value : ℕ) → code < 2 ^ 32 → IsCode code → a ≡ told code value → NumberTells (packed code value) told a
-tells_of told code value h k e = record { code = code; value = value; low = h; is = refl; known = k; one = λ c v l q. packed_one c v code value l h (sym q); tells = e }
+pub tells_of : {A : Type 0} (told : ℕ → ℕ → Option A) {a : A} (code value : ℕ) → code < 2 ^ 32 → Some a ≡ told code value → NumberTells (packed code value) told a
+tells_of told code value h e = record { code = code; value = value; low = h; is = refl; one = λ c v l q. packed_one c v code value l h (sym q); tells = e }
 
-pub same_answer : {A : Type 0} {told : ℕ → ℕ → A} {a b : A} → SameAnswer told a b
+-- it has a call's code
+pub code_known : {A : Type 0} {number : ℕ} {told : ℕ → ℕ → Option (Result A Refusal)} {a : Result A Refusal} → ToldApart told → (t : NumberTells number told a) → IsCode t.code
+code_known {a = a} h t = h.known t.code t.value a t.tells
+
+pub same_answer : {A : Type 0} {told : ℕ → ℕ → Option A} {a b : A} → SameAnswer told a b
 same_answer {told = told} m n x y e =
     let q : (y.code ≡ x.code) × (y.value ≡ x.value) = x.one y.code y.value y.low (e ∙ y.is) in
-    x.tells ∙ sym (y.tells ∙ ap (λ (c : ℕ). told c y.value) q.0 ∙ ap (told x.code) q.1)
+    some_is (x.tells ∙ sym (y.tells ∙ ap (λ (c : ℕ). told c y.value) q.0 ∙ ap (told x.code) q.1))
 
-told_back : (r : Reason) → r ≡ told_reason (number_of r)
-unfolding told_reason
-told_back r = sym (ap (λ (x : Option Reason). unwrap_or x reason.Unsound) (reason_back r))
-
-pub told_plain : (r : Reason) → (r ≡ reason.NoSuchName → ⊥) → refusal.Plain r ≡ told_refusal (number_of r) no_name
+told_back : {q : Refusal} (r : Reason) (v : ℕ) → q ≡ refused_with r v → Some q ≡ told_refusal (number_of r) v
 unfolding told_refusal
-told_plain r h = choice.left _ _ (ne_eqb (number_of r) 11 (λ z. h (one_reason r reason.NoSuchName z))) (choice.took _ _ (eq-eqb no_name no_name refl) (ap refusal.Plain (told_back r)))
+told_back r v e = ap Some e ∙ sym (ap (λ (o : Option Reason). option_map (λ (x : Reason). refused_with x v) o) (reason_back r))
 
-told_at : (r : Reason) (n : ℕ) → refusal.At r n ≡ refusal.At (told_reason (number_of r)) n
-told_at r n = ap (λ (x : Reason). refusal.At x n) (told_back r)
+pub told_plain : (r : Reason) → (r ≡ reason.NoSuchName → ⊥) → Some (refusal.Plain r) ≡ told_refusal (number_of r) no_name
+unfolding refused_with
+told_plain r h = told_back r no_name (choice.left _ _ (ne_eqb (number_of r) 11 (λ z. h (one_reason r reason.NoSuchName z))) (choice.took _ _ (eq-eqb no_name no_name refl) refl))
 
-told_name : (r : Reason) (n : ℕ) → (n ≡ no_name → ⊥) → refusal.At r n ≡ told_refusal (number_of r) n
-unfolding told_refusal
-told_name r n h = by_test (eqb (number_of r) 11) (λ t. choice.took _ _ t (told_at r n)) (λ t. choice.left _ _ t (choice.left _ _ (ne_eqb n no_name h) (told_at r n)))
+told_name : (r : Reason) (n : ℕ) → (n ≡ no_name → ⊥) → Some (refusal.At r n) ≡ told_refusal (number_of r) n
+unfolding refused_with
+told_name r n h = told_back r n (by_test (eqb (number_of r) 11) (λ t. choice.took _ _ t refl) (λ t. choice.left _ _ t (choice.left _ _ (ne_eqb n no_name h) refl)))
 
 -- 11 has its number, whichever that is
-told_claimed : (n : ℕ) → refusal.At reason.NoSuchName n ≡ told_refusal 11 n
-unfolding told_refusal
-told_claimed n = choice.took _ _ (eq-eqb 11 11 refl) (told_at reason.NoSuchName n)
+told_claimed : (n : ℕ) → Some (refusal.At reason.NoSuchName n) ≡ told_refusal 11 n
+unfolding refused_with
+told_claimed n = told_back reason.NoSuchName n (choice.took _ _ (eq-eqb 11 11 refl) refl)
+
+pub told_err : {A : Type 0} {q : Refusal} {o : Option Refusal} → Some q ≡ o → ◌≡◌ {A = Option (Result A Refusal)} (Some (Err q)) (option_map Err o)
+told_err e = ap (λ (x : Option Refusal). option_map Err x) e
 
 -- a refused read or whole block
-read_stop : (k : ℕ) (r : Reason) (v : ℕ) (q : Refusal) → refusal_number q ≡ packed (number_of r) v → q ≡ told_refusal (number_of r) v
+read_stop : (k : ℕ) (r : Reason) (v : ℕ) (q : Refusal) → refusal_number q ≡ packed (number_of r) v → Some q ≡ told_refusal (number_of r) v
     → NumberTells (read_number k (Err q)) told_read (Err q)
 unfolding told_read read_number
 read_stop k r v q e f =
     let b = number_between r in
-    rw e (tells_of told_read (number_of r) v (omega (arith, b.1)) (inr (inr (r, refl)))
-    (choice.left _ _ (ne_eqb (number_of r) 0 (λ z. omega (arith, b.0))) (choice.left _ _ (ne_eqb (number_of r) 256 (λ z. omega (arith, b.1))) (ap Err f))))
+    rw e (tells_of told_read (number_of r) v (omega (arith, b.1))
+    (choice.left _ _ (ne_eqb (number_of r) 0 (λ z. omega (arith, b.0))) (choice.left _ _ (ne_eqb (number_of r) 256 (λ z. omega (arith, b.1))) (told_err f))))
 
 why_tells : (s : Source) (m : Kept) (k : ℕ) (q : Refusal) → Why s m q → NumberTells (read_number k (Err q)) told_read (Err q)
 unfolding refusal_number
@@ -134,8 +327,8 @@ case_tells : (s : Source) (m : Kept) (k : ℕ) (o : Outcome) → ReadCase s m o 
 unfolding read_number told_read kept
 case_tells s m k o (refuses q y) = why_tells s m k q y
 case_tells s m k o (ends a b c) =
-    tells_of told_read 256 k (omega arith) (inr (inl refl)) (choice.left _ _ (ne_eqb 256 0 (λ z. omega arith)) (choice.took _ _ (eq-eqb 256 256 refl) refl))
-case_tells s m k o (keeps x first rows d a b c e) = tells_of told_read 0 m.state.names (omega arith) (inl refl) (choice.took _ _ (eq-eqb 0 0 refl) refl)
+    tells_of told_read 256 k (omega arith) (choice.left _ _ (ne_eqb 256 0 (λ z. omega arith)) (choice.took _ _ (eq-eqb 256 256 refl) refl))
+case_tells s m k o (keeps x first rows d a b c e) = tells_of told_read 0 m.state.names (omega arith) (choice.took _ _ (eq-eqb 0 0 refl) refl)
 
 pub number_tells_read : ReadTold
 unfolding read_call reads_of
@@ -164,23 +357,23 @@ opening_stop : (count : ℕ) (r : Reason) → (r ≡ reason.NoSuchName → ⊥) 
 unfolding told_opening
 opening_stop count r n =
     let b = number_between r in
-    tells_of (told_opening count) (number_of r) no_name (omega (arith, b.1)) (inr (inr (r, refl))) (choice.left _ _ (ne_eqb (number_of r) 0 (λ z. omega (arith, b.0))) (ap Err (told_plain r n)))
+    tells_of (told_opening count) (number_of r) no_name (omega (arith, b.1)) (choice.left _ _ (ne_eqb (number_of r) 0 (λ z. omega (arith, b.0))) (told_err (told_plain r n)))
 
 opening_tells : (len : ℕ) (dir : List ℕ) (count : ℕ) (cur : List ℕ) (o : Opening) → OpenCase len dir count cur o → NumberTells (opened_number o.answer) (told_opening count) o.answer
 unfolding opened_number refusal_number told_opening
 opening_tells len dir count cur o (cases.opens_1 a) = opening_stop count reason.Unsound (λ z. cc)
 opening_tells len dir count cur o (cases.opens_12 a b) = opening_stop count reason.BadCount (λ z. cc)
-opening_tells len dir count cur o (cases.opens a b) = tells_of (told_opening count) 0 0 (omega arith) (inl refl) (choice.took _ _ (eq-eqb 0 0 refl) refl)
+opening_tells len dir count cur o (cases.opens a b) = tells_of (told_opening count) 0 0 (omega arith) (choice.took _ _ (eq-eqb 0 0 refl) refl)
 
 pub number_tells_opening : OpeningTold
 unfolding open_call opens_of
 number_tells_opening bytes dir count cur st = opening_tells (length bytes) dir count cur _ (open_case (length bytes) dir count cur)
 
-verdict_stop : (r : Reason) (v : ℕ) (q : Refusal) → refusal_number q ≡ packed (number_of r) v → q ≡ told_refusal (number_of r) v → NumberTells (verdict_number (Err q)) told_verdict (Err q)
+verdict_stop : (r : Reason) (v : ℕ) (q : Refusal) → refusal_number q ≡ packed (number_of r) v → Some q ≡ told_refusal (number_of r) v → NumberTells (verdict_number (Err q)) told_verdict (Err q)
 unfolding told_verdict verdict_number
 verdict_stop r v q e f =
     let b = number_between r in
-    rw e (tells_of told_verdict (number_of r) v (omega (arith, b.1)) (inr (inr (r, refl))) (choice.left _ _ (ne_eqb (number_of r) 0 (λ z. omega (arith, b.0))) (ap Err f)))
+    rw e (tells_of told_verdict (number_of r) v (omega (arith, b.1)) (choice.left _ _ (ne_eqb (number_of r) 0 (λ z. omega (arith, b.0))) (told_err f)))
 
 verdict_tells : (number : ℕ) (claim : List ℕ) (s : State) (text names : List ℕ) (v : Claimed) → Cause number claim s text names v → NumberTells (verdict_number v) told_verdict v
 unfolding verdict_number refusal_number told_verdict
@@ -189,19 +382,19 @@ verdict_tells number claim s text names v (causes.not_kept a b) = verdict_stop r
 verdict_tells number claim s text names v (causes.text_outside a b c) =
     verdict_stop reason.Outside number _ refl (told_name reason.Outside number (λ z. omega (arith, a.kept, a.limit)))
 verdict_tells number claim s text names v (causes.differs a b) =
-    tells_of told_verdict 0 0 (omega arith) (inl refl) (choice.took _ _ (eq-eqb 0 0 refl) (choice.left _ _ (ne_eqb 0 1 (λ z. omega arith)) refl))
-verdict_tells number claim s text names v (causes.agrees a b) = tells_of told_verdict 0 1 (omega arith) (inl refl) (choice.took _ _ (eq-eqb 0 0 refl) (choice.took _ _ (eq-eqb 1 1 refl) refl))
+    tells_of told_verdict 0 0 (omega arith) (choice.took _ _ (eq-eqb 0 0 refl) (ap (λ (x : Verdict). Some (Ok x)) (choice.left _ _ (ne_eqb 0 1 (λ z. omega arith)) refl)))
+verdict_tells number claim s text names v (causes.agrees a b) = tells_of told_verdict 0 1 (omega arith) (choice.took _ _ (eq-eqb 0 0 refl) (ap (λ (x : Verdict). Some (Ok x)) (choice.took _ _ (eq-eqb 1 1 refl) refl)))
 
 pub number_tells_verdict : VerdictTold
 unfolding claim_call
 number_tells_verdict number claim text names st = verdict_tells number claim (state_in st) text names _ (cause number claim (state_in st) text names)
 
-writing_stop : (totals : List ℕ) (r : Reason) (v : ℕ) (q : Refusal) → refusal_number q ≡ packed (number_of r) v → q ≡ told_refusal (number_of r) v
+writing_stop : (totals : List ℕ) (r : Reason) (v : ℕ) (q : Refusal) → refusal_number q ≡ packed (number_of r) v → Some q ≡ told_refusal (number_of r) v
     → NumberTells (written_number (Err q)) (told_writing totals) (Err q)
 unfolding told_writing written_number
 writing_stop totals r v q e f =
     let b = number_between r in
-    rw e (tells_of (told_writing totals) (number_of r) v (omega (arith, b.1)) (inr (inr (r, refl))) (choice.left _ _ (ne_eqb (number_of r) 0 (λ z. omega (arith, b.0))) (ap Err f)))
+    rw e (tells_of (told_writing totals) (number_of r) v (omega (arith, b.1)) (choice.left _ _ (ne_eqb (number_of r) 0 (λ z. omega (arith, b.0))) (told_err f)))
 
 writing_tells : (rules : Rules) (input dir bytes totals : List ℕ) (w : Writing) → WriteCase rules input dir bytes w → NumberTells (writes_of totals w).number (told_writing (writes_of totals w).totals) w.answer
 unfolding writes_of written_number written_totals refusal_number told_writing
@@ -210,7 +403,7 @@ writing_tells rules input dir bytes totals w (cases.writes_12 a n) = writing_sto
 writing_tells rules input dir bytes totals w (cases.writes_8 n a c b) =
     writing_stop totals reason.BadName n _ refl (told_name reason.BadName n (λ z. omega (arith, b.there, c.1)))
 writing_tells rules input dir bytes totals w (cases.writes_9 a c h l) = writing_stop totals reason.NoRoom no_name _ refl (told_plain reason.NoRoom (λ z. cc))
-writing_tells rules input dir bytes totals w (cases.writes a c h l) = tells_of (told_writing (writes_of totals w).totals) 0 _ (omega arith) (inl refl) (choice.took _ _ (eq-eqb 0 0 refl) refl)
+writing_tells rules input dir bytes totals w (cases.writes a c h l) = tells_of (told_writing (writes_of totals w).totals) 0 _ (omega arith) (choice.took _ _ (eq-eqb 0 0 refl) refl)
 
 pub number_tells_writing : WritingTold
 unfolding write_call

@@ -9,6 +9,7 @@ use Rattle.std.specs.Prelude.{Ok, Err}
 use borrow.Author.Tests.{eq-eqb, ne_eqb, lt-ltb, ltb-true}
 use lib.Dec.{ltb}
 use lib.ListN.{length}
+use Rattle.base.specs.Choice.{pick}
 use Rattle.base.proofs.Choice as choice
 use Rattle.base.proofs.Choice.{both_true, both_of}
 use Rattle.base.proofs.Every.{every_none, every_more}
@@ -24,10 +25,10 @@ use Rattle.replays.proofs.Steps.{sound_fresh}
 use Rattle.replays.proofs.Laws.{stops_at, steps_by, replay_none, fresh_is, none_sized, over_sized, well_sized}
 use Rattle.codes.specs.Codes.{no_name, refusal_number}
 use Rattle.modelcalls.specs.Calls.{replays_of, replayed_number, replay_call}
-use Rattle.demands.specs.Replays.{seen, known, ReplayCase, replays_17, replays_18, replays_all, ReplayHasCase, CaseReplays, Replay17, AlwaysSound, table_after, TableLeft, ReplayEndsSound, ReplayAlone, ReplayedHasCase, ReplayedEndsSound, OneReplay, ReplaySays, says_replayed, says_17, says_18, ReplayCallSays, ReplayCall17, ReplayCall18, ReplayCallAll, ReplayCallEnds, ReplayCallAlone, OneReplayCall, told_replay, ReplayTold}
-use Rattle.demands.specs.Boundary.{NumberTells}
+use Rattle.demands.specs.Replays.{seen, known, ReplayCase, replays_17, replays_18, replays_all, ReplayHasCase, CaseReplays, Replay17, AlwaysSound, table_after, TableLeft, ReplayEndsSound, ReplayAlone, ReplayedHasCase, ReplayedEndsSound, OneReplay, ReplaySays, says_replayed, says_17, says_18, ReplayCallSays, ReplayCall17, ReplayCall18, ReplayCallAll, ReplayCallEnds, ReplayCallAlone, OneReplayCall, told_replay, ReplayApart, ReplayTold}
+use Rattle.demands.specs.Boundary.{NumberTells, NeverDone}
 use Rattle.demands.proofs.Contracts.{one_outcome}
-use Rattle.demands.proofs.Boundary.{tells_of, told_plain}
+use Rattle.demands.proofs.Boundary.{no_refusal, apart, tells_of, told_plain, told_err}
 
 -- a symbol of a sound table stands in it, and any other doesn't
 module _ (n : ℕ) (m : Model) (t : Sound n m) (s : ℕ) where
@@ -175,12 +176,21 @@ pub replay_call_alone : ReplayCallAlone
 unfolding replay_call replays_of
 replay_call_alone n trace m other = ap replayed_number (replay_alone n trace m other)
 
+-- what a code tells, and of which answer
+never_done : NeverDone told_replay
+unfolding told_replay pick
+never_done value = cc (no_refusal value)
+
+pub replay_apart : ReplayApart
+unfolding told_replay
+replay_apart = (apart told_replay (λ v. tt) (λ c v. refl), never_done)
+
 -- a number tells the answer
 answer_tells : (n : ℕ) (trace : List ℕ) (m : Model) (r : Replaying) → ReplayCase n trace m r → NumberTells (replays_of r).number told_replay r.answer
 unfolding replays_of replayed_number refusal_number in_place told_replay
-answer_tells n trace m r (replays_17 h) = tells_of told_replay 17 no_name (omega arith) (inr (inr (BadSize, refl))) (choice.left _ _ (ne_eqb 17 0 (λ z. omega arith)) (ap Err (told_plain BadSize (λ z. cc))))
-answer_tells n trace m r (replays_18 a b before s rest e f g) = tells_of told_replay 18 no_name (omega arith) (inr (inr (BadSymbol, refl))) (choice.left _ _ (ne_eqb 18 0 (λ z. omega arith)) (ap Err (told_plain BadSymbol (λ z. cc))))
-answer_tells n trace m r (replays_all a b f) = tells_of told_replay 0 0 (omega arith) (inl refl) (choice.took _ _ (eq-eqb 0 0 refl) refl)
+answer_tells n trace m r (replays_17 h) = tells_of told_replay 17 no_name (omega arith) (choice.left _ _ (ne_eqb 17 0 (λ z. omega arith)) (told_err (told_plain BadSize (λ z. cc))))
+answer_tells n trace m r (replays_18 a b before s rest e f g) = tells_of told_replay 18 no_name (omega arith) (choice.left _ _ (ne_eqb 18 0 (λ z. omega arith)) (told_err (told_plain BadSymbol (λ z. cc))))
+answer_tells n trace m r (replays_all a b f) = tells_of told_replay 0 0 (omega arith) (choice.took _ _ (eq-eqb 0 0 refl) refl)
 
 pub number_tells_replay : ReplayTold
 unfolding replay_call

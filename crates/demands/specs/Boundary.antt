@@ -1,7 +1,6 @@
 -- The C boundary where its callers stand: what they see of a call's number, what a refused call leaves, calls one after another over what the one before left,
 -- and the demands there.
-use Rattle.std.specs.Option.{unwrap_or}
-use Rattle.std.specs.Prelude.{ℕ, suc, ◌^◌, ◌≤◌, ◌<◌, ◌≡◌, List, [], ◌∷◌, ◌⊎◌, eqb, length, get_or, Some, None, Ok, Err}
+use Rattle.std.specs.Prelude.{ℕ, suc, ◌^◌, ◌≤◌, ◌<◌, ◌≡◌, List, [], ◌∷◌, ◌⊎◌, eqb, length, get_or, Option, Some, None, Result, Ok, Err, option_map}
 use Rattle.block.specs.Block.{Opened}
 use Rattle.entries.specs.Entries.{Answer}
 use Rattle.claims.specs.Claims.{Claimed}
@@ -12,7 +11,6 @@ use Rattle.refusals.specs.Refusals.{number_of, reason_of}
 use Rattle.refusals.specs.declared.Reason.{Reason}
 use Rattle.refusals.specs.declared.Refusal.{Refusal}
 use Rattle.refusals.specs.declared.Refusal.TheVariants as refusal
-use Rattle.refusals.specs.declared.Reason.TheVariants as reason
 use Rattle.block.specs.Block.{open_of, state}
 use Rattle.block.specs.Streams.{diff_stream}
 use Rattle.tables.specs.Tables.{keeping, Table}
@@ -94,42 +92,68 @@ abbrev pub IsCode : ℕ → Type 0
 IsCode code = (code ≡ 0) ⊎ ((code ≡ 256) ⊎ ((r : Reason) × (number_of r ≡ code)))
 
 -- a number tells an answer: it has one code, below 2^32, and one value, and these tell it
-pub record NumberTells {A : Type 0} (number : ℕ) (told : ℕ → ℕ → A) (a : A) : Type 0 where
+pub record NumberTells {A : Type 0} (number : ℕ) (told : ℕ → ℕ → Option A) (a : A) : Type 0 where
   pub code : ℕ
   pub value : ℕ
   pub low : code < 2 ^ 32
   pub is : number ≡ packed code value
-  pub known : IsCode code
   pub one : (c v : ℕ) → c < 2 ^ 32 → number ≡ packed c v → (c ≡ code) × (v ≡ value)
-  pub tells : a ≡ told code value
+  pub tells : Some a ≡ told code value
 
 -- two answers under one number are the same answer: two of reads or of whole blocks, two of claims, two of replays, two of openings with one count, two of writings with the same totals
-abbrev pub SameAnswer : {A : Type 0} → (ℕ → ℕ → A) → A → A → Type 0
+abbrev pub SameAnswer : {A : Type 0} → (ℕ → ℕ → Option A) → A → A → Type 0
 SameAnswer told a b = (m n : ℕ) → NumberTells m told a → NumberTells n told b → m ≡ n → a ≡ b
 
--- the reason that a code tells; where it is no reason's number it tells nothing (`IsCode`), and any reason will do here
-unfoldable pub told_reason : ℕ → Reason
-told_reason code = unwrap_or (reason_of code) reason.Unsound
+-- what a reason and a value tell of a refusal: no name goes with it where the value says so, but for 11, which always has the number claimed
+unfoldable pub refused_with : Reason → ℕ → Refusal
+refused_with r value = pick (eqb (number_of r) 11) (refusal.At r value) (pick (eqb value no_name) (refusal.Plain r) (refusal.At r value))
 
--- what a code and a value tell of a refusal: no name goes with it where the value says so, but for 11, which always has the number claimed
-unfoldable pub told_refusal : ℕ → ℕ → Refusal
-told_refusal code value = pick (eqb code 11) (refusal.At (told_reason code) value) (pick (eqb value no_name) (refusal.Plain (told_reason code)) (refusal.At (told_reason code) value))
+-- what a code and a value tell of it: nothing where the code is no reason's number
+unfoldable pub told_refusal : ℕ → ℕ → Option Refusal
+told_refusal code value = option_map (λ (r : Reason). refused_with r value) (reason_of code)
 
 -- of a read or a whole block; the value of "done" is k
-unfoldable pub told_read : ℕ → ℕ → Answer
-told_read code value = pick (eqb code 0) (Ok (Some value)) (pick (eqb code 256) (Ok None) (Err (told_refusal code value)))
+unfoldable pub told_read : ℕ → ℕ → Option Answer
+told_read code value = pick (eqb code 0) (Some (Ok (Some value))) (pick (eqb code 256) (Some (Ok None)) (option_map Err (told_refusal code value)))
 
 -- of an opening: its state isn't in the number, but it is the fresh one for the count that was handed in
-unfoldable pub told_opening : ℕ → ℕ → ℕ → Opened
-told_opening count code value = pick (eqb code 0) (Ok (state count 0 0 0)) (Err (told_refusal code value))
+unfoldable pub told_opening : ℕ → ℕ → ℕ → Option Opened
+told_opening count code value = pick (eqb code 0) (Some (Ok (state count 0 0 0))) (option_map Err (told_refusal code value))
 
 -- of a claim
-unfoldable pub told_verdict : ℕ → ℕ → Claimed
-told_verdict code value = pick (eqb code 0) (pick (eqb value 1) (Ok verdict.Confirmed) (Ok verdict.Denied)) (Err (told_refusal code value))
+unfoldable pub told_verdict : ℕ → ℕ → Option Claimed
+told_verdict code value = pick (eqb code 0) (Some (Ok (pick (eqb value 1) verdict.Confirmed verdict.Denied))) (option_map Err (told_refusal code value))
 
 -- of a writing: the number of names isn't in the number, but it is the first of the totals that it left
-unfoldable pub told_writing : List ℕ → ℕ → ℕ → WriteAnswer
-told_writing totals code value = pick (eqb code 0) (Ok (record { names = get_or totals 0 0; bytes = value })) (Err (told_refusal code value))
+unfoldable pub told_writing : List ℕ → ℕ → ℕ → Option WriteAnswer
+told_writing totals code value = pick (eqb code 0) (Some (Ok (record { names = get_or totals 0 0; bytes = value }))) (option_map Err (told_refusal code value))
+
+-- an answer that has one code and one value
+abbrev pub OneNumber : {A : Type 0} → (ℕ → ℕ → Option A) → A → Type 0
+OneNumber told a = (c v d w : ℕ) → Some a ≡ told c v → Some a ≡ told d w → (c ≡ d) × (v ≡ w)
+
+-- answers are told apart: no other code than these tells one, each has one code, and a refusal one value too
+pub record ToldApart {A : Type 0} (told : ℕ → ℕ → Option (Result A Refusal)) : Type 0 where
+  pub known : (code value : ℕ) (a : Result A Refusal) → Some a ≡ told code value → IsCode code
+  pub one_code : (c v d w : ℕ) (a : Result A Refusal) → Some a ≡ told c v → Some a ≡ told d w → c ≡ d
+  pub one_refusal : (r : Refusal) → OneNumber told (Err r)
+
+-- 256 tells none
+abbrev pub NeverDone : {A : Type 0} → (ℕ → ℕ → Option A) → Type 0
+NeverDone told = (value : ℕ) → told 256 value ≡ None
+
+-- of every call; 256 tells of a read or a whole block alone. A name that is kept, a confirmed claim and a writing have one value too
+abbrev pub OpeningApart : Type 0
+OpeningApart = (count : ℕ) → ToldApart (told_opening count) × NeverDone (told_opening count)
+
+abbrev pub ReadApart : Type 0
+ReadApart = ToldApart told_read × ((name : ℕ) → OneNumber told_read (Ok (Some name)))
+
+abbrev pub VerdictApart : Type 0
+VerdictApart = ToldApart told_verdict × (NeverDone told_verdict × OneNumber told_verdict (Ok verdict.Confirmed))
+
+abbrev pub WritingApart : Type 0
+WritingApart = (totals : List ℕ) → ToldApart (told_writing totals) × (NeverDone (told_writing totals) × ((a : WriteAnswer) → OneNumber (told_writing totals) a))
 
 -- the number of every call tells its answer
 abbrev pub OpeningTold : Type 0

@@ -1,6 +1,6 @@
 -- C-22, demand 1 of a replay: what it can come to, each case with its cause, and what holds of the table after any trace.
 -- 18 is the one refusal of a single call that leaves changed memory: "the table keeps what the symbols before it did, which demand 1 then allows".
-use Rattle.std.specs.Prelude.{ℕ, ⊤, ◌≤◌, ◌<◌, ◌≡◌, Bool, true, List, [], ◌∷◌, ◌++◌, ◌⊎◌, Result, Ok, Err, ltb, eqb}
+use Rattle.std.specs.Prelude.{ℕ, ⊤, ◌≤◌, ◌<◌, ◌≡◌, Bool, true, List, [], ◌∷◌, ◌++◌, ◌⊎◌, Option, Some, Result, Ok, Err, option_map, ltb, eqb}
 use Rattle.base.specs.Choice.{pick}
 use Rattle.base.specs.Every.{every}
 use Rattle.refusals.specs.declared.Reason.TheVariants.{BadSize, BadSymbol}
@@ -13,7 +13,7 @@ use Rattle.replays.specs.Replays.{Replaying, replaying, replay_fresh, with_table
 use Rattle.codes.specs.Codes.{packed, no_name}
 use Rattle.modelcalls.specs.Calls.{Replays, replays, replay_call}
 use Rattle.demands.specs.OnlyOne.{OneOutcome}
-use Rattle.demands.specs.Boundary.{NumberTells, told_refusal}
+use Rattle.demands.specs.Boundary.{NumberTells, told_refusal, ToldApart, NeverDone}
 
 -- a step for each symbol, one after another
 unfoldable pub seen : Model → List ℕ → Model
@@ -113,8 +113,12 @@ abbrev pub OneReplayCall : Type 0
 OneReplayCall = (n : ℕ) (trace : List ℕ) (m : Model) (x y : Replays) → OneOutcome (replay_call n trace m) x y
 
 -- what a code and a value tell of a replay
-unfoldable pub told_replay : ℕ → ℕ → Result ⊤ Refusal
-told_replay code value = pick (eqb code 0) (Ok tt) (Err (told_refusal code value))
+unfoldable pub told_replay : ℕ → ℕ → Option (Result ⊤ Refusal)
+told_replay code value = pick (eqb code 0) (Some (Ok tt)) (option_map Err (told_refusal code value))
+
+-- its answers are told apart, and 256 tells none
+abbrev pub ReplayApart : Type 0
+ReplayApart = ToldApart told_replay × NeverDone told_replay
 
 abbrev pub ReplayTold : Type 0
 ReplayTold = (n : ℕ) (trace : List ℕ) (m : Model) → NumberTells (replay_call n trace m).number told_replay (replay_of n trace m).answer
