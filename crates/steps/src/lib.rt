@@ -70,6 +70,7 @@ pub fn value_step(
 }
 
 // At the last position, which takes END alone; 3 is judged before 7.
+#[tactic(auto, unfolding(base::specs::Choice::pick, bars::specs::Bars::carries, crate::specs::Steps::value_step))]
 fn last_step(t: TokenType) -> Step
     ensures { (s : Source) (e : Earlier) (p : ℕ) (c : Cursor) → result ≡ pick (carries t) (Err NotEnd) (value_step s e p c t) }
 {
