@@ -4,7 +4,7 @@
 ghost use Rattle.std.specs.Prelude.{◌≡◌, length};
 ghost use Rattle.model.specs.Model.{model};
 ghost use Rattle.model.specs.Sound.{Sound};
-ghost use Rattle.replays.specs.Replays.{replaying, turn_of, table_in, step_of, replay_of};
+ghost use Rattle.replays.specs.Replays.{replaying, turn_of, replay_from, table_in, step_of, replay_of};
 
 use model::Model;
 use refusals::{Reason, Refusal};
@@ -28,7 +28,24 @@ fn turn(
     Ok(())
 }
 
-// The public call, on what a model is made of: 17, then 18. Only as many places as the table has are lent on.
+// A turn for each symbol of a trace, until one is refused.
+fn follow(
+    trace: &[u8],
+    symbols: &mut [u32],
+    frequencies: &mut [u32],
+    total: &mut u32,
+) -> Result<(), Refusal>
+    requires { Sound (length symbols.old) (model symbols.old frequencies.old total.old) }
+    ensures { replaying result (model symbols.new frequencies.new total.new) ≡ replay_from (model symbols.old frequencies.old total.old) trace.now }
+{
+    for symbol in trace {
+        turn(*symbol, symbols, frequencies, total)?;
+    }
+    Ok(())
+}
+
+// The public call, on what a model is made of: 17, then 18. Only as many places as the table has are lent on; the total is
+// counted in a number of its own, since what is lent is written at each symbol.
 pub fn replay(
     size: u32,
     trace: &[u8],
@@ -44,11 +61,10 @@ pub fn replay(
     let symbols = &mut symbols[..size as usize];
     let frequencies = &mut frequencies[..size as usize];
     model::start(symbols, frequencies);
-    *total = size;
-    for symbol in trace {
-        turn(*symbol, symbols, frequencies, total)?;
-    }
-    Ok(())
+    let mut sum = size;
+    let answer = follow(trace, symbols, frequencies, &mut sum);
+    *total = sum;
+    answer
 }
 
 // One symbol seen by a model, on what it is made of. No public call: no refusal has words for a table that isn't sound.
